@@ -5,19 +5,23 @@ A run of the built program is recorded by strace, with the bytes that it writes.
 left, and of the folder the names that it had at its last fsync. What came later may be there after a cut or not: nothing of it, all, each
 beginning, all but one, and the last write torn within a sector's bounds; of names nothing, all, each beginning. Each such state of the ledger,
 its log and its witness is laid out, with the ledger's own inode, and the same command runs again: it must succeed, and give no number that
-an output had at the cut, also if its bytes never reached the disk. So no state that an honest disk leaves is refused.
+an output had at the cut, also if its bytes never reached the disk. So no state that an honest disk leaves is refused. Then the ledger and the
+log from before the recorded run are put back beside the witness: the next run must be refused, and leave ledger and witness as they are.
 
 The runs: a first one, which makes ledger and witness, as the user gives it again; a later one with --no-new-ledger; a later one of a second
-device over the same two files; and, of some states after a cut, the run that repairs it, cut again.
+device over the same two files; and, of some states after a cut, the run that repairs it, cut again. The states are tried side by side, one for
+each processor, in folders in memory if there is room.
 
 Prints 'N states as they should be', or what differs. Needs strace: if it is missing it says so and exits with status 0; under CI it fails.
 """
+import multiprocessing
 import os
 import re
 import shutil
 import subprocess
 import sys
 import tempfile
+import time
 
 top = os.path.abspath(os.path.join(os.path.dirname(__file__), ".."))
 sealer = os.environ.get("SEALER", f"{top}/crates/sealer/out/sealer")
@@ -32,7 +36,13 @@ UNKNOWN = "pwritev,writev,renameat,renameat2,linkat,unlinkat,fallocate,copy_file
 O_CREAT = 0o100
 CALL = re.compile(rb"(?:\d+ +)?([a-z_0-9]+)\((.*)\) += (-?\d+)")
 TEXT = re.compile(rb'"((?:\\x[0-9a-f]{2})*)"')
-told, states = [], 0
+# What marks the ledger in a line of a witness.
+MARK = re.compile(rb" file [0-9]+ [0-9]+ (?:[0-9]+|-)\n")
+# Bytes of a log without pages, at most.
+NO_PAGES = 32 + 24
+# What a run says over a ledger that was put back, or is gone.
+PUT_BACK = ("ledger: older than its witness\n", "ledger: not the file its witness saw\n")
+told = []
 
 
 def differs(what):
@@ -140,7 +150,7 @@ def folder():
 
 def lay_out(state):
     """Makes these the files in the folder. The ledger keeps its inode, which the witness names."""
-    if os.path.exists("ledger"):
+    if os.path.exists("ledger") and not os.path.exists("kept aside"):
         os.rename("ledger", "kept aside")
     for name in os.listdir("."):
         if is_mine(name) or name.endswith((".stm", ".part")):
@@ -210,30 +220,19 @@ def record(words):
 
 
 def cut_each(what, words, given, again):
-    """Cuts a run at each call. `again` says how many times a run that repairs is cut too."""
-    global states
+    """Cuts a run at each call, and leaves the files as they were. Yields for each state what is to be tried. `again` says of every how many
+    states the run that repairs it is cut too."""
     before = frozenset(folder().items())
-    seen, tried = set(), {}
+    tried = {}
     for n, (call, disk, used) in enumerate(list_of(words)):
         for state in disk:
-            if (state, used) not in seen:
-                seen.add((state, used))
-                tried[state, used] = f"{what}, cut after call {n}, {call}"
+            tried.setdefault((state, used), f"{what}, cut after call {n}, {call}")
     for n, ((state, used), where) in enumerate(tried.items()):
-        states += 1
-        lay_out(state)
         taken = given | ({used} if used else set())
         if again and n % again == 0:
-            cut_each(f"{where}, and again", words, taken, 0)
             lay_out(state)
-        run = subprocess.run(words, capture_output=True, text=True, timeout=60)
-        if run.returncode != 0:
-            differs(f"{where}: the run after has status {run.returncode}, prints {run.stdout}{run.stderr}")
-        else:
-            with open("a.stm", "rb") as file:
-                number = number_in(file.read(17))
-            if number in taken:
-                differs(f"{where}: number {number} comes again")
+            yield from cut_each(f"{where}, and again", words, taken, 0)
+        yield where, words, state, taken, before
     lay_out(before)
 
 
@@ -242,28 +241,81 @@ def list_of(words):
     return [(call, list(disk.after_a_cut()), used) for call, disk, used in record(words)]
 
 
+def begin(room):
+    """Begins a process that tries states, in a folder of its own."""
+    global mark
+    os.chdir(tempfile.mkdtemp(dir=room))
+    made()
+    # Its ledger has an inode of its own, which each witness is given.
+    subprocess.run(command(1, "--new-witness"), capture_output=True, check=True)
+    with open("witness", "rb") as file:
+        mark = MARK.search(file.read())[0]
+
+
+def tried(asked):
+    """One state: the run after the cut, and the one over the ledger from before. Returns what differs."""
+    where, words, state, taken, before = asked
+    lay_out((name, MARK.sub(mark, data) if name.startswith("witness") else data) for name, data in state)
+    run = subprocess.run(words, capture_output=True, text=True, timeout=60)
+    if run.returncode != 0:
+        return [f"{where}: the run after has status {run.returncode}, prints {run.stdout}{run.stderr}"]
+    with open("a.stm", "rb") as file:
+        number = number_in(file.read(17))
+    wrong = [f"{where}: number {number} comes again"] if number in taken else []
+    # The witness of the run after stays beside the ledger and the log from before.
+    now = {name: data for name, data in before if not name.startswith("witness")}
+    with open("witness", "rb") as file:
+        now["witness"] = MARK.sub(mark, file.read())
+    lay_out(now.items())
+    run = subprocess.run(words, capture_output=True, text=True, timeout=60)
+    if run.returncode != 2 or run.stderr not in PUT_BACK or os.path.exists("a.stm"):
+        wrong.append(f"{where}: with the ledger from before it has status {run.returncode}, prints {run.stdout}{run.stderr}")
+    # The log begins anew, and its pages, if it has some, go to the ledger.
+    left, pages = folder(), len(now.get("ledger-wal", b"")) > NO_PAGES
+    if left.keys() != now.keys() or left["witness"] != now["witness"] or not pages and left.get("ledger") != now.get("ledger"):
+        wrong.append(f"{where}: the refused run over the ledger from before leaves other files")
+    return wrong
+
+
+def made():
+    """Makes the file that is sealed."""
+    with open("a", "wb") as file:
+        file.write(b"a" * 1000)
+
+
+def states():
+    """What is to be tried, of each run."""
+    made()
+    yield from cut_each("a first run", command(1, "--new-witness"), set(), 0)
+    os.remove("kept aside")
+    given = set()
+    for device, more in (1, ["--new-witness"]), (2, ["--new-witness"]), (1, []):
+        run = subprocess.run(command(device, *more), capture_output=True, text=True)
+        if run.returncode != 0:
+            differs(f"device {device}: {run.stdout}{run.stderr}")
+        with open("a.stm", "rb") as file:
+            given.add(number_in(file.read(17)))
+        os.remove("a.stm")
+    yield from cut_each("a later run", command(1, "--no-new-ledger"), given, 40)
+    yield from cut_each("a later run of device 2", command(2, "--no-new-ledger"), given, 0)
+
+
 def main():
-    with tempfile.TemporaryDirectory() as room:
-        os.chdir(room)
-        with open("a", "wb") as file:
-            file.write(b"a" * 1000)
-        cut_each("a first run", command(1, "--new-witness"), set(), 0)
-        lay_out(frozenset())
-        given = set()
-        for device, more in (1, ["--new-witness"]), (2, ["--new-witness"]), (1, []):
-            run = subprocess.run(command(device, *more), capture_output=True, text=True)
-            if run.returncode != 0:
-                differs(f"device {device}: {run.stdout}{run.stderr}")
-            with open("a.stm", "rb") as file:
-                given.add(number_in(file.read(17)))
-            os.remove("a.stm")
-        cut_each("a later run", command(1, "--no-new-ledger"), given, 40)
-        cut_each("a later run of device 2", command(2, "--no-new-ledger"), given, 0)
+    begun, count, jobs = time.monotonic(), 0, os.cpu_count()
+    place = "/dev/shm" if os.access("/dev/shm", os.W_OK) and shutil.disk_usage("/dev/shm").free > jobs << 25 else None
+    with tempfile.TemporaryDirectory(dir=place) as room:
+        os.mkdir(f"{room}/recorded")
+        os.chdir(f"{room}/recorded")
+        with multiprocessing.Pool(jobs, begin, (room,)) as pool:
+            for wrong in pool.imap_unordered(tried, states()):
+                count += 1
+                told.extend(wrong)
         os.chdir(top)
     for what in told[:40]:
         print(what)
-    print(f"power_cuts: {len(told)} differ" if told else f"power_cuts: {states} states as they should be")
-    sys.exit(1 if told or not states else 0)
+    print(f"power_cuts: {len(told)} differ" if told else f"power_cuts: {count} states as they should be, in {time.monotonic() - begun:.0f} s")
+    sys.exit(1 if told or not count else 0)
 
 
-main()
+if __name__ == "__main__":
+    main()
