@@ -9,6 +9,7 @@ MiB, and what each range adds to a ledger of one. $SEALER is another program. FO
 import hashlib
 import os
 import re
+import resource
 import shutil
 import sqlite3
 import subprocess
@@ -42,14 +43,19 @@ def make(path, owners):
     base.close()
 
 
+def used():
+    """Processor seconds of this process's children. os.times() counts in steps of 10 ms."""
+    children = resource.getrusage(resource.RUSAGE_CHILDREN)
+    return children.ru_utime + children.ru_stime
+
+
 def run(words):
     """Processor milliseconds of a run, and its peak memory in MiB. A child of this process would count this one's memory too."""
-    began = os.times()
+    began = used()
     done = subprocess.run(["/usr/bin/time", "-f", "%M", "-o", "peak", *words], stdout=subprocess.DEVNULL, check=False)
-    ended = os.times()
+    took = used() - began
     if done.returncode != 0:
         sys.exit(f"{words}: status {done.returncode}")
-    took = ended.children_user + ended.children_system - began.children_user - began.children_system
     with open("peak", encoding="ascii") as file:
         return 1000 * took, int(file.read()) / 1024
 
