@@ -5,7 +5,8 @@ set -u
 cd "$(dirname "$0")/.."
 sealer=$(realpath "${SEALER:-crates/sealer/out/sealer}")
 room=$(mktemp -d)
-trap 'umount "$room/small" 2>/dev/null; rm -rf "$room"' EXIT
+loop=
+trap 'umount "$room/small" "$room/exfat" 2>/dev/null; [ -z "$loop" ] || losetup -d "$loop" 2>/dev/null; rm -rf "$room"' EXIT
 runs=0 bad=0
 
 # has TOOL: what some runs need. Without it they are left out, which is reported at the end, and is a failure under CI.
@@ -2906,6 +2907,59 @@ cause: there is no such file'
         done
     done
 fi
+
+# A long ledger in little memory: the text names memory, and nothing is done.
+if has sqlite3; then
+    rm -f files/f3.stm
+    run seal --key files/key --ledger files/long --device 1 files/f3
+    wants long-ledger 0 'sealed files/f3 file 0 bytes 2' ''
+    rm files/f3.stm
+    sqlite3 files/long 'WITH RECURSIVE n (i) AS (SELECT 1 UNION ALL SELECT i + 1 FROM n WHERE i < 438000)
+        INSERT INTO taken SELECT key_id, device, i, 1 FROM n, mark; UPDATE mark SET next = 438001'
+    sum=$(cksum < files/long)
+    (ulimit -v 65536; exec "$sealer" ledger --ledger files/long --verbose) > out 2> err; status=$?
+    wants long-ledger-in-little-memory 2 '' 'ledger: out of memory
+cause: memory was refused'
+    (ulimit -v 65536; exec "$sealer" seal --key files/key --ledger files/long --no-new-ledger --device 1 files/f3) > out 2> err; status=$?
+    wants long-ledger-seal-in-little-memory 2 '' 'ledger: out of memory'
+    is long-ledger-stays test "$(cksum < files/long)" = "$sum" -a ! -e files/f3.stm
+    run ledger --ledger files/long
+    is long-ledger-in-enough-memory grep -q ' device 1 ranges 438001 given 438001 ' out
+    rm files/long*
+fi
+
+# A ledger on exFAT itself, where a file of this system can be mounted as one, by the kernel or by FUSE.
+mkdir exfat
+truncate -s 32M exfat.image
+mounted=
+if mkfs.exfat exfat.image > /dev/null 2>&1 && loop=$(losetup --find --show exfat.image 2>/dev/null); then
+    { mount -t exfat "$loop" exfat || mount.exfat-fuse "$loop" exfat; } > /dev/null 2>&1 && mounted=yes
+fi
+if [ -n "$mounted" ]; then
+    cp files/f3 exfat/a
+    cp files/f3 exfat/b
+    cp files/f3 exfat/c
+    run seal --key files/key --ledger exfat/ledger --device 1 --witness files/on-exfat --new-witness exfat/a
+    wants exfat-first-run 0 'sealed exfat/a file 0 bytes 2' ''
+    is exfat-has-a-log test -e exfat/ledger-wal
+    run seal --key files/key --ledger exfat/ledger --device 1 --no-new-ledger --witness files/on-exfat exfat/b
+    wants exfat-later-run 0 'sealed exfat/b file 1 bytes 2' ''
+    # Mounted anew, files can have other inodes: the witness then asks to be renewed, and the numbers go on.
+    umount exfat
+    { mount -t exfat "$loop" exfat || mount.exfat-fuse "$loop" exfat; } > /dev/null 2>&1
+    run seal --key files/key --ledger exfat/ledger --device 1 --no-new-ledger --witness files/on-exfat --new-witness exfat/c
+    wants exfat-mounted-anew 0 'sealed exfat/c file 2 bytes 2' ''
+    run ledger --ledger exfat/ledger
+    is exfat-ledger grep -q ' device 1 ranges 3 given 3 ' out
+    run verify --key files/key exfat/a.stm exfat/b.stm exfat/c.stm
+    is exfat-containers test "$status $(grep -c '^good ' out)" = '0 3'
+    umount exfat
+else
+    echo 'left out: a ledger on exFAT, since no such file system can be mounted here'
+fi
+[ -z "$loop" ] || losetup -d "$loop"
+loop=
+rm -f exfat.image
 
 # A ledger that was put back beside the log of later runs: those two files are what its own run could have left, so its numbers come again. Only
 # a witness tells.

@@ -79,6 +79,7 @@ class Kind:
     threads: bool = False  # some allocation is another thread's; workers make none
     whole: bytes = b""  # what `unpipe` writes if nothing is refused
     last: int = 0  # if not 0, only this many of the last allocations are refused
+    told: str = ""  # a text that some run must print where one allocation alone is refused
 
     @property
     def status(self):
@@ -335,7 +336,8 @@ def kinds(made):
     yield Kind("seal by two workers", sealing("--workers", "2", "--journal", "journal", "long"), ["long"], some("long"), each=half)
     yield Kind("seal three by two lanes", sealing("--lanes", "2", "--journal", "journal", *LANES), LANES, some(*LANES), threads=True, each=half)
     yield Kind("seal three", sealing("--journal", "journal", *THREE), THREE, some(*THREE), each=half)
-    yield Kind("seal over a ledger", sealing("--journal", "journal", "small"), ["small"], some("small", **ledger), first=1, each=half)
+    no_memory = "ledger: out of memory"
+    yield Kind("seal over a ledger", sealing("--journal", "journal", "small"), ["small"], some("small", **ledger), first=1, each=half, told=no_memory)
     # What they do after the ledger.
     placed = ["--into", ".", "--journal", "journal"]
     yield Kind("seal into a folder", sealing(*placed, "--sync", *THREE), THREE, some(*THREE), last=150)
@@ -343,7 +345,7 @@ def kinds(made):
     if cut:
         yield Kind("seal over a log", sealing("--journal", "journal", "small"), ["small"], some("small", **cut), first=2, each=quarter)
         given = some("small", **back)
-        yield Kind("seal over another log", sealing("--journal", "journal", "small"), ["small"], given, 100, refused=True, each=quarter)
+        yield Kind("seal over another log", sealing("--journal", "journal", "small"), ["small"], given, 100, refused=True, each=quarter, told=no_memory)
     elif os.environ.get("CI"):
         sys.exit("refusal_runs: no run left a log")
     stream = FILES["long"]
@@ -371,7 +373,7 @@ def kinds(made):
     listed = {"long.stm": long_stm, "list": b"long.stm\n"}
     yield Kind("verify a list", ["verify", "--key", key, "--files-from", "list"], ["long.stm"], listed, 40, line=good)
     holding = f"key {hashlib.sha256(bytes.fromhex(read(key).decode().strip())).hexdigest()[:14]} device 1 ranges 1 given 1 left 4294967295"
-    yield Kind("ledger", ["ledger", "--ledger", "ledger"], [], ledger, 100, line=holding)
+    yield Kind("ledger", ["ledger", "--ledger", "ledger"], [], ledger, 100, line=holding, told=no_memory)
     yield Kind("audit", ["audit"], [], least=10, input=history, line=verdict)
     # Of four workers or lanes three are threads. If one can't be started the others do its work, with the same answer.
     by = ("REFUSE_THREADS",)
@@ -447,6 +449,8 @@ def main():
             print(f"{kind.name}: {runs} by {which}")
             if end <= (1 if which == "REFUSE_BEYOND" else kind.least) and not bad:
                 bad.append(f"{kind.name}, {which}: only {end - 1} allocations")
+            if kind.told and every < 2 and which == "REFUSE" and kind.told not in told:
+                bad.append(f"{kind.name}: no refusal gives: {kind.told}")
             if kind.threads and every < 2 and which == "REFUSE" and "refused to another thread" not in told:
                 bad.append(f"{kind.name}: nothing was refused to another thread")
     if every < 2:
