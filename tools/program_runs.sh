@@ -465,9 +465,9 @@ list: line 4: no last name: files/..
 list: line 5: its output is that of './files/x/a'" --keep-going --into files/into ./files/x/a
 printf 'files/x/a\n\nfiles/y/a\nfiles//y/a\n../a\n' > list
 mkdir files/tree
-which each-of-a-tree 1 'sealed files/x/a file 4 bytes 1
+which each-of-a-tree 1 'sealed files/x/a file 6 bytes 1
 failed : cannot open
-sealed files/y/a file 6 bytes 2
+sealed files/y/a file 7 bytes 2
 failed files//y/a: output exists
 failed ../a: cannot open' 'list: line 2: empty
 list: line 4: its output is that of line 3' --keep-going --into files/tree --parents
@@ -3536,7 +3536,7 @@ for mode in 600 400 700; do
     wants "no-warning $mode" 0 'good files/numbers.stm bytes 1492' ''
 done
 run audit --verbose < /dev/null
-wants audit-has-no-causes 2 '' "begins error: unexpected argument '--verbose' found"
+wants audit-without-files-has-no-causes 1 'malformed line 1' ''
 # On a terminal both come unasked.
 cat > on_terminal.py <<'END'
 import os, pty, subprocess, sys
