@@ -54,7 +54,10 @@ fn begins<S: Source>(source: &mut S, wanted: &[u8]) -> bool {
 }
 
 // Whether this file gives its bytes, and again after a part of them and after all of them.
-fn is_read_again<F: Folder>(folder: &mut F, name: &str) -> bool {
+fn is_read_again<R: Files + AllocGlobal + Clock + Eprint, I: Read + Drop>(
+    folder: &mut SystemFiles<'_, '_, R, I>,
+    name: &str,
+) -> bool {
     match folder.open(name) {
         Ok(mut input) => {
             folder.can_repeat(&input)
@@ -95,7 +98,11 @@ fn a_regular_file_is_read_again(rt: HostRuntime) -> io::Result<()> {
 }
 
 // Whether this file can't be read again, but on.
-fn is_read_once<F: Folder>(folder: &mut F, name: &str, bytes: &[u8]) -> bool {
+fn is_read_once<R: Files + AllocGlobal + Clock + Eprint, I: Read + Drop>(
+    folder: &mut SystemFiles<'_, '_, R, I>,
+    name: &str,
+    bytes: &[u8],
+) -> bool {
     match folder.open(name) {
         Ok(mut input) => {
             !folder.can_repeat(&input)
@@ -143,7 +150,10 @@ fn standard_input_is_read_once(rt: HostRuntime) {
 }
 
 // Whether this file gives its bytes, and again once it was read to its end.
-fn is_kept<F: Folder>(folder: &mut F, name: &str) -> bool {
+fn is_kept<R: Files + AllocGlobal + Clock + Eprint, I: Read + Drop>(
+    folder: &mut SystemFiles<'_, '_, R, I>,
+    name: &str,
+) -> bool {
     match folder.open(name) {
         Ok(mut input) => {
             folder.can_repeat(&input)
@@ -158,7 +168,10 @@ fn is_kept<F: Folder>(folder: &mut F, name: &str) -> bool {
 }
 
 // Whether a part of it can't be read again.
-fn is_kept_whole_alone<F: Folder>(folder: &mut F, name: &str) -> bool {
+fn is_kept_whole_alone<R: Files + AllocGlobal + Clock + Eprint, I: Read + Drop>(
+    folder: &mut SystemFiles<'_, '_, R, I>,
+    name: &str,
+) -> bool {
     match folder.open(name) {
         Ok(mut input) => {
             begins(&mut input, b"01234567") && folder.again(name, &mut input) == Err(Failed)
