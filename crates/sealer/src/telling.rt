@@ -221,7 +221,7 @@ fn clashes_of<'n>(
     let mut clashes = Vec::new(alloc);
     let mut seen: BTreeMap<String, Named<'n>> = BTreeMap::new(alloc);
     for at in 0..names.len() {
-        let file = named(origin, names[at], at + 1);
+        let file = name_at(origin, names[at], at + 1);
         if !to.may_share || is_text(alloc, file.name)? {
             take_in(alloc, to.target, file, &mut seen, &mut clashes)?;
         }
@@ -230,7 +230,7 @@ fn clashes_of<'n>(
 }
 
 // The name of this number among all.
-fn named<'n>(origin: Origin, name: &'n str, number: usize) -> Named<'n> {
+fn name_at<'n>(origin: Origin, name: &'n str, number: usize) -> Named<'n> {
     let listed = if number > origin.given {
         Some(number - origin.given)
     } else {
