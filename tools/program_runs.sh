@@ -275,6 +275,45 @@ printf '%s\n' files/b files/d/a | "$sealer" seal --key "$key" --ledger files/led
 wants kept-of-a-list 0 'kept files/a
 kept files/b
 sealed files/d/a file 8 bytes 1' ''
+# A second night: what was sealed is kept, also if it changed since. That is found by its time, and goes into another folder.
+mkdir files/night files/first files/second
+seq 9 > files/night/x
+seq 8 > files/night/y
+seals --into files/first files/night/x files/night/y
+touch -d '2 hours ago' files/stamp
+touch -d '3 hours ago' files/night/x
+seq 20 > files/night/y
+seals --skip-existing --into files/first files/night/x files/night/y
+wants a-changed-file-is-kept 0 'kept files/night/x
+kept files/night/y' ''
+find files/night -type f -newer files/stamp | "$sealer" seal --key "$key" --ledger files/ledger --device 1 --into files/second --files-from - > out 2> err; status=$?
+unnumbered
+wants a-changed-file-is-sealed-elsewhere 0 'sealed files/night/y bytes 51' ''
+# A night that is killed as its second output gets its name, and a restore that is: nothing is there that isn't whole, and the same command does the rest.
+if command -v strace >/dev/null; then
+    rm files/first/*
+    # the first link of a folder is a trial; the shell prints that it was killed
+    {
+        strace -f -o /dev/null -e trace=link -e inject=link:signal=KILL:when=3 "$sealer" seal --key "$key" --ledger files/ledger --device 1 \
+            --into files/first files/night/x files/night/y > out 2> err
+    } 2> /dev/null
+    is a-night-is-killed test "$(ls files/first)" = x.stm
+    seals --skip-existing --into files/first files/night/x files/night/y
+    unnumbered
+    wants a-killed-night-is-repaired 0 'kept files/night/x
+sealed files/night/y bytes 51' ''
+    mkdir files/back
+    {
+        strace -f -o /dev/null -e trace=link -e inject=link:signal=KILL:when=3 "$sealer" open --key "$key" --into files/back \
+            files/first/x.stm files/first/y.stm > out 2> err
+    } 2> /dev/null
+    is a-restore-is-killed test "$(ls files/back)" = x
+    run open --key "$key" --skip-existing --into files/back files/first/x.stm files/first/y.stm
+    wants a-killed-restore-is-repaired 0 'kept files/first/x.stm
+opened files/first/y.stm bytes 51' ''
+    is what-was-restored diff -r files/night files/back -x '.*'
+fi
+rm -rf files/night files/first files/second files/back
 cp files/b files/d/b
 ln -s ../a.stm files/d/b.stm
 seals --skip-existing files/d/b
@@ -1624,6 +1663,15 @@ seals --files-from list w
 wants too-many-of-a-list 2 '' 'ledger: too many files'
 seals --files-from - < list > out
 is as-many-as-a-run-may-have test "$status $(sort -u out | tr '\n' ' ') $(wc -l < out)" = '1 failed w: cannot open  65535'
+# More FILEs than that: several runs, each with a range of its own.
+mkdir life/many
+(cd life/many && seq 65540 | xargs touch)
+find life/many -type f -print0 | xargs -0 -n 40000 "$sealer" seal --key "$key" --ledger life/many-ledger --device 1 > out 2> err
+status=$?
+is more-by-xargs test "$status $(grep -c '^sealed ' out) $(sed 's/.* file \([0-9]*\) bytes 0$/\1/' out | sort -n | uniq | wc -l)" = '0 65540 65540'
+find life/many -name '*.stm' -print0 | xargs -0 -n 40000 "$sealer" verify --key "$key" > out 2> err
+is more-are-good test "$? $(grep -c '^good ' out)" = '0 65540'
+rm -r life/many life/many-ledger*
 # A list is read before the key, and before anything is reserved.
 : > list
 before=$(marks)

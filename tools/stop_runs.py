@@ -1,12 +1,13 @@
 #!/usr/bin/env python3
 """stop_runs.py [NIGHTS [NIGHT]]: stops the built program at its system calls, by strace, and checks what the next run does.
 
-Over one ledger file that lives on, with one lane, two lanes and two workers, and for a stream with one worker and two, also with a witness, the
-program is killed at each of its system calls. Each of its calls on files and memory also fails (EIO, ENOSPC, EINTR, ENOMEM). After a kill no number may be issued
-that a container already has, and the next run must succeed. After an error the run must end by itself, with a status and a text of
-docs/MANUAL.md. An output that is there is whole, and its line doesn't say that it failed. A journal without a fault is legal and has nothing
-open. What was written of a stream begins its container, and is all of it if its line says so. All stops are tried, side by side over the
-processors, each process over its own ledger; with NIGHTS each NIGHTS-th, from the NIGHT-th on (0).
+Over one ledger file that lives on, with one lane, two lanes and two workers, into a folder and a tree, and for a stream with one worker and
+two, also with a witness, the program is killed at each of its system calls. Each of its calls on files and memory also fails (EIO, ENOSPC,
+EINTR, ENOMEM). After a kill no number may be issued that a container already has, and the next run must succeed. After an error the run
+must end by itself, with a status and a text of docs/MANUAL.md. An output that is there is whole, and its line doesn't say that it failed. A
+journal without a fault is legal and has nothing open. What was written of a stream begins its container, and is all of it if its line says
+so. All stops are tried, side by side over the processors, each process over its own ledger; with NIGHTS each NIGHTS-th, from the NIGHT-th
+on (0).
 
 Then it is killed as it makes a ledger, at each of its calls on files, and cut within each of its writes there: the next run succeeds, and no
 number comes twice. A ledger that was emptied beside the log of a later run, wherever that was killed, is refused.
@@ -67,7 +68,15 @@ MUST_SHOW = ["fsync", "fdatasync", "pwrite64", "ftruncate"]
 # These are called any number of times, and do nothing.
 PASSED_OVER = ["sched_yield"]
 WITNESS = ["--witness", "witness"]
-WAYS = {"one lane": [], "two lanes": ["--lanes", "2"], "two workers": ["--workers", "2"], "one lane, a witness": WITNESS}
+TREE = ["--into", "out", "--parents"]
+WAYS = {
+    "one lane": [],
+    "two lanes": ["--lanes", "2"],
+    "two workers": ["--workers", "2"],
+    "one lane, a witness": WITNESS,
+    "into a folder": ["--into", "out"],
+    "two lanes, into a tree": [*TREE, "--lanes", "2"],
+}
 STREAMS = {"a stream": ["--depth", "2"], "a stream by two workers": ["--workers", "2", "--depth", "2"], "a stream, a witness": ["--depth", "2", *WITNESS]}
 
 if not shutil.which("strace"):
@@ -101,26 +110,36 @@ def ran(way, strace, **more):
     return run
 
 
+def outputs():
+    """The outputs, whole or in part, here and in the folder of --into."""
+    return sorted(os.path.join(at, name) for at in (".", "out") if os.path.isdir(at) for name in os.listdir(at) if name.endswith((".stm", ".part")))
+
+
+def output_of(way, name):
+    return f"out/{name}.stm" if "into" in way else f"{name}.stm"
+
+
 def clear():
-    for name in os.listdir("."):
-        if name.endswith((".stm", ".part")) or name == "journal":
+    for name in (*outputs(), "journal"):
+        if os.path.exists(name):
             os.remove(name)
+    # what --into needs is there; what --parents makes isn't
+    os.makedirs("out", exist_ok=True)
 
 
 def take(what):
     """The outputs in the folder, whole or in part, have prefixes that no container had. One file can have two names."""
     seen = set()
-    for name in sorted(os.listdir(".")):
-        if name.endswith((".stm", ".part")):
-            with open(name, "rb") as file:
-                begin, number = file.read(17), os.fstat(file.fileno()).st_ino
-            if number in seen:
-                continue
-            seen.add(number)
-            if len(begin) == 17:
-                if begin[10:] in given:
-                    differs(f"{what}: {name} has the number of {given[begin[10:]]}")
-                given[begin[10:]] = f"{name}, {what}"
+    for name in outputs():
+        with open(name, "rb") as file:
+            begin, number = file.read(17), os.fstat(file.fileno()).st_ino
+        if number in seen:
+            continue
+        seen.add(number)
+        if len(begin) == 17:
+            if begin[10:] in given:
+                differs(f"{what}: {name} has the number of {given[begin[10:]]}")
+            given[begin[10:]] = f"{name}, {what}"
     clear()
 
 
@@ -178,29 +197,32 @@ def stopped(way, call, n, how):
         if way in STREAMS:
             streamed(what, run)
         for name in ("a", "b") if way in WAYS else ():
-            if os.path.exists(f"{name}.stm"):
-                check = subprocess.run([sealer, "verify", "--key", key, f"{name}.stm"], capture_output=True, text=True, timeout=60)
+            output = output_of(way, name)
+            if os.path.exists(output):
+                check = subprocess.run([sealer, "verify", "--key", key, output], capture_output=True, text=True, timeout=60)
                 if check.returncode != 0 or f"failed {name}:" in run.stdout:
-                    differs(f"{what}: {name}.stm is there: {check.stdout.strip()}, {run.stdout.strip()}")
+                    differs(f"{what}: {output} is there: {check.stdout.strip()}, {run.stdout.strip()}")
             elif f"sealed {name} " in run.stdout:
-                differs(f"{what}: no {name}.stm")
+                differs(f"{what}: no {output}")
         if not run.stderr and os.path.exists("journal") and os.path.getsize("journal"):
             with open("journal", "rb") as journal:
                 audit = subprocess.run([sealer, "audit"], stdin=journal, capture_output=True, text=True, timeout=60)
             if audit.returncode != 0 or ", 0 open, " not in audit.stdout:
                 differs(f"{what}: the journal is {audit.stdout.strip()}")
-        for name in os.listdir(".") if way in WAYS else ():
+        for name in outputs() if way in WAYS else ():
             if name.endswith(".part"):
                 differs(f"{what}: {name} is left")
     elif way in WAYS:
-        for name in ("a.stm", "b.stm"):
+        both = [output_of(way, name) for name in ("a", "b")]
+        for name in both:
             if os.path.exists(name):
                 check = subprocess.run([sealer, "verify", "--key", key, name], capture_output=True, text=True, timeout=60)
                 if check.returncode != 0:
                     differs(f"{what}: {name} is there: {check.stdout.strip()}")
-        again = [sealer, "seal", "--key", key, "--ledger", "ledger", "--device", "1", "--skip-existing", "a", "b", *witness_of(way)]
+        # the same command again, but for the journal, which is there
+        again = [sealer, "seal", "--key", key, "--ledger", "ledger", "--device", "1", "--skip-existing", *WAYS[way], "a", "b"]
         repaired = subprocess.run(again, capture_output=True, text=True, timeout=60)
-        check = subprocess.run([sealer, "verify", "--key", key, "a.stm", "b.stm"], capture_output=True, text=True, timeout=60)
+        check = subprocess.run([sealer, "verify", "--key", key, *both], capture_output=True, text=True, timeout=60)
         if repaired.returncode != 0 or check.returncode != 0:
             differs(f"{what}: --skip-existing has status {repaired.returncode}, prints {repaired.stdout}{repaired.stderr}, and then {check.stdout}")
     take(what)
