@@ -3009,6 +3009,40 @@ fi
 loop=
 rm -f exfat.image
 
+# The causes of a log that takes numbers back, left by a killed run and put back after two others, and of a damaged ledger.
+if command -v strace >/dev/null; then
+    mkdir mixed
+    (umask 077; cp "$key" mixed/key)
+    for n in a b c d; do seq 3 > mixed/$n; done
+    run seal --key mixed/key --ledger mixed/ledger --device 1 mixed/a
+    {
+        strace -f -o /dev/null -P "$PWD/mixed/ledger" -e trace=pwrite64 -e inject=pwrite64:signal=KILL:when=1 "$sealer" seal --key mixed/key \
+            --ledger mixed/ledger --device 1 mixed/b > out 2> err
+    } 2> /dev/null
+    cp mixed/ledger-wal mixed/log
+    is the-log-has-the-range test "$(wc -c < mixed/log)" -gt 4096
+    run seal --key mixed/key --ledger mixed/ledger --device 1 mixed/b mixed/c
+    wants the-range-is-given-up 0 'sealed mixed/b file 2 bytes 6
+sealed mixed/c file 3 bytes 6' ''
+    cp mixed/log mixed/ledger-wal
+    run seal --verbose --key mixed/key --ledger mixed/ledger --device 1 mixed/d
+    wants log-takes-numbers-back 2 '' 'ledger: cannot open
+cause: LEDGER-wal does not go with LEDGER, or one of them is damaged: do not delete them'
+    head -c 100 mixed/ledger > mixed/zeros
+    head -c 100 /dev/zero >> mixed/zeros
+    tail -c +201 mixed/ledger >> mixed/zeros
+    run seal --verbose --key mixed/key --ledger mixed/zeros --device 1 mixed/d
+    wants damaged-ledger 2 '' 'ledger: cannot open
+cause: the database is damaged or was altered, or memory was refused'
+    # a witness is renamed only once its bytes are on the disk, and then its name is
+    run seal --key mixed/key --ledger mixed/new --device 1 --witness mixed/witness --new-witness mixed/d
+    rm mixed/d.stm
+    strace -f -y -o calls -e trace=rename,fsync "$sealer" seal --key mixed/key --ledger mixed/new --device 1 --witness mixed/witness mixed/d > out 2> err
+    is the-witness-is-on-the-disk test "$(sed -n 's/.* fsync([0-9]*<.*witness[^>]*new>).*/bytes/p; s/.* rename(.*/name/p; s/.* fsync([0-9]*<.*mixed>).*/folder/p' calls |
+        sed -n '/bytes/,$p' | tr '\n' ' ')" = 'bytes name folder '
+    rm -r mixed
+fi
+
 # A ledger that was put back beside the log of later runs: those two files are what its own run could have left, so its numbers come again. Only
 # a witness tells.
 fresh
@@ -3885,6 +3919,9 @@ run seal --key "$key" --ledger year/ledger --device 1 --into year/in --quote yea
 cp out year/lines
 against --into year/in --quote year/in/*.stm
 wants against-into 0 'good year/in/5.stm bytes 10
+good year/in/a\nb.stm bytes 6' ''
+against --into year/in/ --quote year/in/*.stm
+wants against-into-with-a-slash 0 'good year/in/5.stm bytes 10
 good year/in/a\nb.stm bytes 6' ''
 against --quote year/in/*.stm
 wants against-not-into 1 'good year/in/5.stm bytes 10
