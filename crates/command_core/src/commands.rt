@@ -324,7 +324,7 @@ pub fn tell<W: Report>(
 /// exist yet. A file that can be read again is read twice, in the memory of a verification: the second reading checks
 /// each chunk again before it writes it. If a label is asked for, a container with another one fails after it was
 /// checked, and its output isn't created. Returns the exit status: 0 if every file was opened, 1 if one failed, 2 if a
-/// line couldn't be written. An output that couldn't be written whole, or finished, is removed.
+/// line couldn't be written. The folder is asked to remove an output that couldn't be written whole, or finished.
 pub fn open_all<
     T: Threads + Sync,
     F: OpeningFolder,

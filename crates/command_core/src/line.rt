@@ -1,4 +1,4 @@
-//! What a command prints for each file on standard output: one line, and a second one for a good file that is shown.
+//! What a command prints for each file: one line, and a second one for a good file that is shown.
 ghost use Rattle.std.specs.Prelude.{Some};
 ghost use Rattle.command_core.specs.Lines.{fault_text, line_text};
 

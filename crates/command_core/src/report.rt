@@ -6,7 +6,7 @@ ghost use Rattle.command_core.specs.Printing.{IsPrinted};
 use ledger_core::{Failed, Sink, write_all};
 
 /// What a command prints to: standard output, standard error, or the journal. The contract takes a text only if the
-/// caller shows that it is a line, a complaint or a journal. So nothing else is ever printed there. If the run is
+/// caller shows that it is a line, a complaint or a journal. So nothing else is printed through it. If the run is
 /// killed, the last text may be cut short.
 pub trait Report {
     // The bytes that were printed, if they are known.
