@@ -1,4 +1,4 @@
-//! The sealer as a library: what each command but `ledger` does, over any reader and any writer.
+//! The sealer as a library: what the commands do, but `ledger` and `show`, over any reader and any writer.
 //!
 //! `seal_all` and `pipe_all` are here, with the theorems over their runs (`theorem`). `engine_core` has the engines.
 //! `command_core` has `open_all`, `verify_all`, `unpipe_all`, and the folders and lines of all commands. `life_core`

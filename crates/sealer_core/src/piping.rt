@@ -40,7 +40,7 @@ const STREAM: &str = "-";
 /// The options of `pipe_all`.
 #[derive(Clone, Copy)]
 pub struct PipeOptions<'a> {
-    /// The device under whose number the stream is sealed. No two machines that share a key share one.
+    /// The device under whose number the stream is sealed. No two machines that share a key may share one.
     pub device: Device,
     /// The number of workers: 1 to 16. The caller's thread is one of them, and does all reading and writing.
     pub workers: u32,

@@ -37,7 +37,7 @@ pub fn runs_are_apart<D: Disk + Drop, E: Disk + Drop>()
 
 /// What a run of `seal_all` wrote meets the law on outputs (`laws::no_two_outputs_have_one_prefix`). Each output that
 /// it finished or gave up, and that holds any byte, holds a prefix of a container under the key and in the shape, under
-/// its own number, granted in this run. A finished one holds the whole container. Each premise is a clause of
+/// its own number, granted in this run. Each premise is a clause of
 /// `seal_all`, over a folder that reports what happened, except that the shape is one, as the options' shape is.
 pub fn a_run_has_written()
     ensures { (key : List ℕ) (shape : ShapeView) (names : List (List ℕ)) (terms : Terms) (history : List Entry)

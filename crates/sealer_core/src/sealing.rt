@@ -39,7 +39,7 @@ const TROUBLE: u8 = 2;
 /// What `seal_all` works on.
 #[derive(Clone, Copy)]
 pub struct SealOptions<'a> {
-    /// The device under whose numbers the files are sealed. No two machines that share a key share one.
+    /// The device under whose numbers the files are sealed. No two machines that share a key may share one.
     pub device: Device,
     /// The names of the files: at least one.
     pub files: &'a [&'a str],
@@ -178,12 +178,18 @@ fn work_ledger<T: Threads + Wait + Sync, S: Fold, F: SealingFolder, W: Report, J
 }
 
 /// Seals each file to its name and `.stm`, which must not exist yet, in the options' shape and under its own number. A
-/// file of more than `max_bytes` bytes is too long. Returns the exit status: 0 if every file was sealed, 1 if one
-/// failed, 2 if no range was reserved, the ledger file wasn't folded, the witness didn't record the range or no ledger
-/// opened (then no file was touched), if a line couldn't be written (no further line is tried; files and journal are
-/// still processed), or if the journal couldn't be written whole. Each of these but a line has a text on standard
-/// error. The output of a file that failed is given up: it is removed. What it held is nothing, or a prefix of its
-/// input's container under a void number.
+/// file of more than `max_bytes` bytes is too long.
+///
+/// Returns the exit status:
+/// - 0: every file was sealed.
+/// - 1: a file failed. Its output is given up: the folder is asked to remove it. What it held is nothing, or a prefix
+///   of its input's container under a void number.
+/// - 2: no range was reserved, the ledger file wasn't folded, the witness didn't record the range, or no ledger opened.
+///   Then no file was touched.
+/// - 2: a line couldn't be written, or the journal not whole. After such a line no further one is tried; files and
+///   journal are still processed.
+///
+/// Each status 2 has a text on standard error, but for a line.
 ///
 /// At most one range is reserved, with as many numbers as there are files, and for good: what it leaves unused is given
 /// up. Before the first file is opened the ledger file is folded, so it has the range without its log. After that it

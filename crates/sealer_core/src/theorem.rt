@@ -131,10 +131,10 @@ pub fn what_an_output_holds<W: Output>()
 
 /// A call that was killed is a run of the theorem, with no history. Its premises on the ledger file are those of
 /// `a_call_is_a_run`, up to the fold of a range. That it had folded one is shown when it declares under which key and
-/// range containers begin (`SealingFolder::start`, `SealingStream::allow_stream`: clause `stands`). The others hold at
+/// range containers begin (`SealingFolder::start`, `SealingStream::allow_stream`: clause `stands`). Others hold at
 /// every moment. For `seal_all`: the containers that began have numbers of the range, no two the same (the law `sound`
-/// of `Folder`), and each has one output, which begins it (`what_an_output_holds`). For `pipe_all`: its stream begins a
-/// container, under a number that a seat of the ledger holds.
+/// of `Folder`), and an output begins its own (`what_an_output_holds`). That each has one output is read in the code.
+/// For `pipe_all`: its stream begins a container, under a number that a seat of the ledger holds.
 pub fn a_killed_call_is_a_run<D: Disk + Drop>()
     ensures killed { (key : List ℕ) (device count seats : ℕ) (start files : Image) (keeper : _) (old new : _)
         (left : Files D) (session : Session) (outputs : List (List ℕ))
