@@ -2,7 +2,7 @@
 """gate_cost.py FILE [COMMAND..]: prints what the gate costs, by crate.
 
 Runs a command (by default .ci/run), looks at each process below it once a second, and adds what it saw to FILE. So a gate that took several
-runs, each over what the ones before kept, gives one table. Then it prints the table of docs/DEVELOPING.md. For each crate that has the
+runs, each over what the ones before kept, gives one table. Then it prints a table. For each crate that has the
 processor seconds of its proof, its tests, and its edits in must-fail/, with their number; the first edit proves the crate from nothing. It
 also has the most memory of one check. Processes that end within a second can be missed.
 """

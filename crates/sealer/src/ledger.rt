@@ -111,7 +111,7 @@ fn tell_held<R: Files + AllocGlobal + Eprint, W: Sink>(
     }
 }
 
-// Writes the lines, of one key if a hint is given. If it has none, its ID is written.
+// Writes the lines, of one key if a hint is given. If it has none, its hint is written.
 fn tell_all<W: Sink>(
     alloc: Global,
     held: &[Holding],
