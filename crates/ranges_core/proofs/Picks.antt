@@ -14,7 +14,7 @@ use Rattle.sqlite.proofs.Callers.{IsPlain, reads_as, one_permutation}
 use Rattle.sqlite_rules.specs.Lists.{Has}
 use Rattle.sqlite_rules.proofs.ListLemmas.{all_has, all_from, has_filtered}
 use Rattle.ranges_core.specs.declared.fault.ReserveFault.{ReserveFault}
-use Rattle.ranges_core.specs.declared.fault.ReserveFault.TheVariants.{Store}
+use Rattle.ranges_core.specs.Faults.{IsRefusal}
 use Rattle.ranges_core.specs.Tables.{IsLedger, ledger_schema}
 use Rattle.ranges_core.specs.Reads.{is_for, next_text, marks_text, takings_text, ids_text, ranges_text, shown_range, shown_next, shown_mark, shown_taken, shown_id}
 use Rattle.ranges_core.specs.Reservations.{IsMarkRow, IsTakenRow, IsNext, next_of, number_in, Lists, HoldLists}
@@ -129,5 +129,5 @@ reads_mark marks taken lists key device rows result hold same none one = go (fil
 pub is_read : (own : List Row) (result : Result (Option ℕ) ReserveFault) → IsRead own result → IfOk result (IsMarkOf own)
 is_read own result it = subst (λ r. IfOk r (IsMarkOf own)) (sym it.1) it.2
 
-pub is_no_fault : (own : List Row) (result : Result (Option ℕ) ReserveFault) → IsRead own result → IfErr result (λ e. e ≡ Store)
-is_no_fault own result it = subst (λ r. IfErr r (λ e. e ≡ Store)) (sym it.1) tt
+pub is_no_fault : (own : List Row) (result : Result (Option ℕ) ReserveFault) → IsRead own result → IfErr result IsRefusal
+is_no_fault own result it = subst (λ r. IfErr r IsRefusal) (sym it.1) tt

@@ -3,7 +3,7 @@ ghost use Rattle.std.specs.Prelude.{◌≡◌, ◌≢◌, ◌⊎◌, IsTrue, IfE
 ghost use Rattle.sqlite.specs.State.{HasCleanDisk, Survives};
 ghost use Rattle.sqlite.specs.Held.{state};
 ghost use Rattle.ranges_core.specs.Calls.{CommitsNothing, Unchanged, WhileOpen};
-ghost use Rattle.ranges_core.specs.Faults.{IsBad};
+ghost use Rattle.ranges_core.specs.Faults.{IsBad, IsRefusal};
 ghost use Rattle.ranges_core.specs.Lasting.{StillLast};
 ghost use Rattle.ranges_core.specs.Reservations.{Holds, Opened, no_lists};
 ghost use Rattle.ranges_core.specs.Tables.{no_schema};
@@ -19,7 +19,7 @@ use sqlite::{Alter, Connection};
 /// form lists.
 ///
 /// Returns `BadStore` if the schema is not empty and one of the two tables can't be read, or if the rows form no lists.
-/// Returns `Store` for every other cause. A refusal changes nothing.
+/// Returns `OutOfMemory` if memory was refused, and `Store` for every other cause. A refusal changes nothing.
 pub fn open_tables<S: Alter>(conn: &mut Connection<S>) -> Result<(), ReserveFault>
     ensures settled { OnOk result (conn.new.in_transaction ≡ false) }
     ensures ready { WhileOpen S.Store conn.new (OnOk result (IsReady (state S.Store conn.new))) }
@@ -30,7 +30,7 @@ pub fn open_tables<S: Alter>(conn: &mut Connection<S>) -> Result<(), ReserveFaul
     ensures never { HasCleanDisk (state S.Store conn.new) → OnOk result (IsBad (state S.Store conn.old).now → ⊥) }
     ensures bad { HasCleanDisk (state S.Store conn.new) → result ≡ Err ReserveFault.BadStore
         → IsBad (state S.Store conn.old).now }
-    ensures named { IfErr result (λ e. (e ≡ ReserveFault.Store) ⊎ (e ≡ ReserveFault.BadStore)) }
+    ensures named { IfErr result (λ e. IsRefusal e ⊎ (e ≡ ReserveFault.BadStore)) }
     ensures same { WhileOpen S.Store conn.new (OnErr result (Unchanged S.Store conn.old conn.new)) }
     ensures kept { StillLast S.Store conn.old conn.new }
     ensures mode { OnErr result (conn.new.in_transaction ≡ conn.old.in_transaction) }
@@ -44,7 +44,7 @@ pub fn open_tables<S: Alter>(conn: &mut Connection<S>) -> Result<(), ReserveFaul
     if is_blank(conn.schema()) {
         return match make_tables(conn) {
             Ok(()) => Ok(()),
-            Err(_) => Err(ReserveFault::Store),
+            Err(error) => Err(ReserveFault::of(error)),
         };
     }
     if !is_ledger(conn.schema()) {

@@ -7,6 +7,7 @@ ghost use Rattle.sqlite.specs.State.{HasCleanDisk, IsLive, Survives, KeepsCommit
 ghost use Rattle.sqlite.specs.Held.{state};
 ghost use Rattle.ranges_core.specs.Calls.{CommitsNothing, KeepsCommitted, OnlyRead, ReadInside, StillShows};
 ghost use Rattle.ranges_core.specs.Calls.{Unchanged, WasOpen, WhileOpen, marks_in, taken_in};
+ghost use Rattle.ranges_core.specs.Faults.{IsRefusal};
 ghost use Rattle.ranges_core.specs.Tables.{IsLedger};
 ghost use Rattle.ranges_core.specs.Reads.{is_for, is_range_row, shown_id, shown_mark};
 ghost use Rattle.ranges_core.specs.Reads.{shown_next, shown_range, shown_taken};
@@ -75,7 +76,7 @@ fn mark_in(rows: &[Row]) -> Result<Option<u64>, ReserveFault>
 }
 
 /// Returns the mark of a key ID and device: the number at which its next range begins, or `None` if nothing was
-/// reserved. A refusal is `Store`. `BadStore` comes only after a disk fault. Nothing changes.
+/// reserved. A refusal is `Store` or `OutOfMemory`. `BadStore` comes only after a disk fault. Nothing changes.
 pub fn mark_of<S: Alter>(
     conn: &mut Connection<S>,
     key: &[u8],
@@ -89,14 +90,14 @@ pub fn mark_of<S: Alter>(
     ensures read { HasCleanDisk (state S.Store conn.new)
         → IfOk result (IsMarkOf (filter (is_for key.now device) (marks_in S.Store conn.old))) }
     ensures bound { IfOk result (λ mark. (n : _) → mark ≡ Some n → n ≤ NUMBERS) }
-    ensures named { IfErr result (λ e. (e ≡ ReserveFault.Store) ⊎ (e ≡ ReserveFault.BadStore)) }
-    ensures sound { HasCleanDisk (state S.Store conn.new) → IfErr result (λ e. e ≡ ReserveFault.Store) }
+    ensures named { IfErr result (λ e. IsRefusal e ⊎ (e ≡ ReserveFault.BadStore)) }
+    ensures sound { HasCleanDisk (state S.Store conn.new) → IfErr result IsRefusal }
     ensures same { WhileOpen S.Store conn.new (Unchanged S.Store conn.old conn.new) }
     ensures crash { CommitsNothing S.Store conn.old conn.new }
 {
     match next_rows(conn, key, device) {
         Ok(rows) => mark_in(rows.as_slice()),
-        Err(_) => Err(ReserveFault::Store),
+        Err(error) => Err(ReserveFault::of(error)),
     }
 }
 
@@ -195,7 +196,7 @@ fn check_rowids<S: Alter>(conn: &mut Connection<S>) -> Result<(), ReserveFault>
         → OnOk result (StillShows S.Store conn.old conn.new
         × (AllByRecursion IsMarkRow (marks_in S.Store conn.old)
         → HaveRowids (marks_in S.Store conn.old))) }
-    ensures named { IfErr result (λ e. e ≡ ReserveFault.Store) }
+    ensures named { IfErr result IsRefusal }
     ensures same { OnlyRead S.Store conn.old conn.new }
     ensures crash { CommitsNothing S.Store conn.old conn.new }
 {
@@ -203,8 +204,9 @@ fn check_rowids<S: Alter>(conn: &mut Connection<S>) -> Result<(), ReserveFault>
     if !is_ledger(conn.schema()) {
         return Err(ReserveFault::Store);
     }
-    let Ok(ids) = read_ids(conn) else {
-        return Err(ReserveFault::Store);
+    let ids = match read_ids(conn) {
+        Ok(ids) => ids,
+        Err(error) => return Err(ReserveFault::of(error)),
     };
     // In SQLite no two rows of a table share a rowid.
     if !do_ids_rise(ids.as_slice()) {
@@ -231,12 +233,13 @@ fn check_held_rows<S: Alter>(conn: &mut Connection<S>) -> Result<(), ReserveFaul
     ensures bad { HasCleanDisk (state S.Store conn.new) → IsLedger (state S.Store conn.old).now.schema
         → result ≡ Err ReserveFault.BadStore
         → (lists : Lists) → HoldLists (marks_in S.Store conn.old) (taken_in S.Store conn.old) lists → ⊥ }
-    ensures named { IfErr result (λ e. (e ≡ ReserveFault.Store) ⊎ (e ≡ ReserveFault.BadStore)) }
+    ensures named { IfErr result (λ e. IsRefusal e ⊎ (e ≡ ReserveFault.BadStore)) }
     ensures same { WhileOpen S.Store conn.new (Unchanged S.Store conn.old conn.new) }
     ensures crash { CommitsNothing S.Store conn.old conn.new }
 {
-    let Ok(all) = read_all(conn) else {
-        return Err(ReserveFault::Store);
+    let all = match read_all(conn) {
+        Ok(all) => all,
+        Err(error) => return Err(ReserveFault::of(error)),
     };
     hold_lists(all.marks.as_slice(), all.taken.as_slice())?;
     check_rowids(conn)
@@ -258,7 +261,7 @@ pub(crate) fn check_rows<S: Alter>(conn: &mut Connection<S>) -> Result<(), Reser
     ensures bad { HasCleanDisk (state S.Store conn.new) → IsLedger (state S.Store conn.old).now.schema
         → result ≡ Err ReserveFault.BadStore
         → (lists : Lists) → HoldLists (marks_in S.Store conn.old) (taken_in S.Store conn.old) lists → ⊥ }
-    ensures named { IfErr result (λ e. (e ≡ ReserveFault.Store) ⊎ (e ≡ ReserveFault.BadStore)) }
+    ensures named { IfErr result (λ e. IsRefusal e ⊎ (e ≡ ReserveFault.BadStore)) }
     ensures same { WhileOpen S.Store conn.new (Unchanged S.Store conn.old conn.new) }
     ensures crash { CommitsNothing S.Store conn.old conn.new }
 {
@@ -321,8 +324,8 @@ fn range_rows<S: Alter>(
 fn ranges_in(rows: &Vec<Row>) -> Result<Vec<(u32, u64)>, ReserveFault>
     ensures ranges { IfOk result (λ ranges. ranges_of_pairs ranges.items ≡ map answered_range rows.now.items) }
     ensures adjacent { IfOk result (λ ranges. Adjacent 0 (ranges_of_pairs ranges.items)) }
-    ensures named { IfErr result (λ e. (e ≡ ReserveFault.Store) ⊎ (e ≡ ReserveFault.BadStore)) }
-    ensures sound { list_all is_range_row rows.now.items ≡ true → IfErr result (λ e. e ≡ ReserveFault.Store) }
+    ensures named { IfErr result (λ e. IsRefusal e ⊎ (e ≡ ReserveFault.BadStore)) }
+    ensures sound { list_all is_range_row rows.now.items ≡ true → IfErr result IsRefusal }
 {
     let mut ranges = Vec::new(*rows.allocator());
     let mut rest = rows.as_slice();
@@ -336,7 +339,7 @@ fn ranges_in(rows: &Vec<Row>) -> Result<Vec<(u32, u64)>, ReserveFault>
             return Err(ReserveFault::Store);
         }
         if ranges.push((lo as u32, size)).is_err() {
-            return Err(ReserveFault::Store);
+            return Err(ReserveFault::OutOfMemory);
         }
         end += size;
         rest = more;
@@ -344,8 +347,8 @@ fn ranges_in(rows: &Vec<Row>) -> Result<Vec<(u32, u64)>, ReserveFault>
     Ok(ranges)
 }
 
-/// Returns the ranges of a key ID and device as (`lo`, `size`), in order of `lo`. A refusal is `Store`. `BadStore`
-/// comes only after a disk fault. Nothing changes.
+/// Returns the ranges of a key ID and device as (`lo`, `size`), in order of `lo`. A refusal is `Store` or
+/// `OutOfMemory`. `BadStore` comes only after a disk fault. Nothing changes.
 pub fn ranges_of<S: Alter>(
     conn: &mut Connection<S>,
     key: &[u8],
@@ -358,13 +361,13 @@ pub fn ranges_of<S: Alter>(
     ensures lists { HasCleanDisk (state S.Store conn.new) → (lists : Lists) → Holds (state S.Store conn.old).now lists
         → IfOk result (λ ranges. ranges_of_pairs ranges.items ≡ lists key.now device) }
     ensures open { HasCleanDisk (state S.Store conn.new) → OnOk result (IsTrue (state S.Store conn.old).is_open) }
-    ensures named { IfErr result (λ e. (e ≡ ReserveFault.Store) ⊎ (e ≡ ReserveFault.BadStore)) }
-    ensures sound { HasCleanDisk (state S.Store conn.new) → IfErr result (λ e. e ≡ ReserveFault.Store) }
+    ensures named { IfErr result (λ e. IsRefusal e ⊎ (e ≡ ReserveFault.BadStore)) }
+    ensures sound { HasCleanDisk (state S.Store conn.new) → IfErr result IsRefusal }
     ensures same { OnlyRead S.Store conn.old conn.new }
     ensures crash { CommitsNothing S.Store conn.old conn.new }
 {
     match range_rows(conn, key, device) {
         Ok(rows) => ranges_in(&rows),
-        Err(_) => Err(ReserveFault::Store),
+        Err(error) => Err(ReserveFault::of(error)),
     }
 }
