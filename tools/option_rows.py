@@ -1,6 +1,7 @@
 """The options of the commands, as the sources of crates/command_line have them.
 
-options.rt has lists of rows: one for each option, and one for the files of a command. arguments.rt says which command has which lists.
+options.rt has lists of rows: one for each option, and one for the files of a command. rows.rt makes them arguments of the parser.
+arguments.rt says which command has which lists.
 words.rt says which options take a word for a number. What can't be read is an error that names it. So is a help without its row's range.
 """
 import re
@@ -160,9 +161,10 @@ def rows_of(options, command):
 
 def read():
     """The options of the sources."""
-    rows, arguments, words = ((SOURCES / f"{it}.rt").read_text(encoding="utf-8") for it in ("options", "arguments", "words"))
+    names = ("options", "rows", "arguments", "words")
+    rows, of_rows, arguments, words = ((SOURCES / f"{it}.rt").read_text(encoding="utf-8") for it in names)
     sources = "".join(it.read_text(encoding="utf-8") for it in sorted(TOP.glob("crates/*/src/**/*.rt")))
-    lists = lists_of(rows, words_of(words), sources)
+    lists = lists_of(rows + of_rows, words_of(words), sources)
     letters = re.findall(r"b'(\w)' => Some", function(words, "unit_of"))
     options = Options(lists, *commands_of(arguments, lists), letters)
     for name in lists.keys() - {name for it in options.commands for name in it.lists}:

@@ -2,8 +2,9 @@
 use crate::options::{
     AGAINST_ROWS, CAUSE_ROWS, FILE_ROWS, HOLDINGS_ROWS, JSON_ROWS, KEY_ROWS, LABEL_ROWS,
     LEDGER_ROWS, LOOK_ROWS, OPEN_ROWS, OUTPUT_ROWS, PIPE_ROWS, PROGRESS_ROWS, QUIET_ROWS,
-    SEAL_ROWS, SHAPE_ROWS, SHOW_ROWS, TERMINAL_ROWS, TO_ROWS, UNPIPE_ROWS, with_rows,
+    SEAL_ROWS, SHAPE_ROWS, SHOW_ROWS, TERMINAL_ROWS, TO_ROWS, UNPIPE_ROWS,
 };
+use crate::rows::with_rows;
 use crate::version::VERSION;
 use clap::{Command, Error};
 use std::alloc::Global;

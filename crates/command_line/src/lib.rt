@@ -10,8 +10,11 @@ pub mod given;
 pub mod laws;
 pub mod lists;
 pub mod names;
+pub mod opening;
 mod options;
-pub mod requests;
+pub mod printing;
+mod rows;
+pub mod sealing;
 pub mod version;
 pub mod words;
 
@@ -26,10 +29,10 @@ pub use crate::names::{
     ListRequest, Naming, borrowed, files_of, list_request, names_in, naming_asked, quoted_files_of,
     quoted_names,
 };
-pub use crate::requests::{
-    DEFAULT_EXPONENT, OpenRequest, PipeRequest, Printing, Reading, SealRequest, Showing,
-    UnpipeRequest, against_asked, open_request, pipe_request, printing_asked, seal_request,
-    showing_asked, unpipe_request, verbose_asked,
+pub use crate::opening::{OpenRequest, Reading, UnpipeRequest, open_request, unpipe_request};
+pub use crate::printing::{
+    Printing, Showing, against_asked, printing_asked, showing_asked, verbose_asked,
 };
+pub use crate::sealing::{DEFAULT_EXPONENT, PipeRequest, SealRequest, pipe_request, seal_request};
 pub use crate::version::VERSION;
 pub use crate::words::{asks_for_processors, write_out};

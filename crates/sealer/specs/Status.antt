@@ -15,8 +15,8 @@ use Rattle.command_line.specs.Given.{AreFactsAsked, IsFlag}
 use Rattle.sealer_core.specs.Sealing.{IsOfSealing}
 use Rattle.sealer.specs.declared.OverFiles.{OverFiles}
 use Rattle.sealer.specs.declared.OverFiles.TheVariants.{Seal, Read}
-use Rattle.command_line.specs.declared.requests.Reading.{Reading}
-use Rattle.command_line.specs.declared.requests.Reading.TheVariants.{Open, Verify}
+use Rattle.command_line.specs.declared.opening.Reading.{Reading}
+use Rattle.command_line.specs.declared.opening.Reading.TheVariants.{Open, Verify}
 use Rattle.sealer.specs.Names.{AreNames}
 use Rattle.system_files.specs.Kept.{IsSplit, kept_text}
 
