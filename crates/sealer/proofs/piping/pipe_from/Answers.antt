@@ -1,5 +1,5 @@
 use Rattle.std.proofs.Common.{◌∙◌}
-use Rattle.sealer.proofs.sealing.pipe_from.Goals as goal
+use Rattle.sealer.proofs.piping.pipe_from.Goals as goal
 
 pub returns-clause-run : goal.returns-clause-run
 returns-clause-run g c =

@@ -4,7 +4,7 @@ use Rattle.sealer_core.specs.Piping.{stream_name}
 use Rattle.sealer_core.specs.Sealing.{line_of}
 use Rattle.sealer.specs.Status.{IsOfPiping}
 use Rattle.sealer.proofs.Statuses.{fits_stream, of_written}
-use Rattle.sealer.proofs.sealing.pipe_once.Goals as goal
+use Rattle.sealer.proofs.piping.pipe_once.Goals as goal
 
 pub returns-clause-status : goal.returns-clause-status
 returns-clause-status g c =

@@ -1,0 +1,163 @@
+//! What a run that seals begins with, and why it can't: its key, its journal, its ledger file and the witness of that.
+ghost use Rattle.std.specs.Prelude.{◌≡◌, IfErr, IfSome, None, Some, option_map, string_bytes};
+
+use crate::files::key_at;
+use crate::{FAULT, explain};
+use container_core::Key;
+use ledger_core::{Device, ToWrite};
+use std::rt::{Clock, Files};
+use system_files::{About, Cause, JournalPlace, Step, new_journal};
+use system_ledger::{
+    FileWitness, LedgerFault, LedgerPath, Turn, WitnessFault, WitnessPath, WitnessRefusal, may_open,
+};
+
+/// What a run that seals begins with: its key, and its journal.
+#[derive(Drop)]
+pub(crate) struct Begun<J: Drop> {
+    pub(crate) key: Key,
+    pub(crate) journal: Option<J>,
+    /// The path of the journal, if it isn't the one that was given.
+    pub(crate) path: Option<String>,
+}
+
+/// Begins a run that seals: reads the key file, and creates the journal, at the path that was given or in this folder. A
+/// fault is printed, with `causes` its cause too, and the error is its status.
+pub(crate) fn begin<R: Files + AllocGlobal + Clock + Eprint>(
+    rt: &R,
+    key: &str,
+    ledger: &str,
+    given: Option<&str>,
+    folder: Option<&str>,
+    device: Device,
+    causes: bool,
+) -> Result<Begun<ToWrite<R::File>>, u8>
+    ensures status { IfErr result (λ status. status ≡ FAULT) }
+{
+    let key = match key_at(rt, key, causes) {
+        Ok(key) => key,
+        Err(status) => return Err(status),
+    };
+    let place = journal_place(given, folder, device);
+    match new_journal(rt, place, ledger) {
+        Ok((journal, path)) => Ok(Begun { key, journal, path }),
+        Err(fault) => {
+            let about = About::Known(fault.cause());
+            Err(explain(rt, "journal", fault, causes, about))
+        }
+    }
+}
+
+// Where the journal is made: at this path, or in this folder for this device.
+fn journal_place<'a>(
+    path: Option<&'a str>,
+    folder: Option<&'a str>,
+    device: Device,
+) -> JournalPlace<'a>
+    ensures at { IfSome path.entry (λ path. result ≡ JournalPlace.At path) }
+    ensures within { path.entry ≡ None → IfSome folder.entry (λ folder. result ≡ JournalPlace.In folder device) }
+    ensures nowhere { path.entry ≡ None → folder.entry ≡ None → result ≡ JournalPlace.Nowhere }
+{
+    match (path, folder) {
+        (Some(path), _) => JournalPlace::At(path),
+        (None, Some(folder)) => JournalPlace::In(folder, device),
+        (None, None) => JournalPlace::Nowhere,
+    }
+}
+
+/// Returns the path of the journal that was made: this one, if it was chosen here, or else the given one.
+pub(crate) fn journal_path<'a>(
+    chosen: &'a Option<String>,
+    given: Option<&'a str>,
+) -> Option<&'a str>
+    ensures chosen { IfSome chosen.now (λ path. option_map (λ path. path.now) result ≡ Some (string_bytes path)) }
+    ensures given { chosen.now ≡ None → result ≡ given.entry }
+{
+    match chosen {
+        Some(path) => Some(path.as_str()),
+        None => given,
+    }
+}
+
+/// Why a run can't begin over its ledger file.
+#[derive(Clone, Copy)]
+pub(crate) enum Refusal {
+    /// The ledger file, at this step.
+    Ledger(LedgerFault, Step),
+    /// The witness.
+    Witness(WitnessFault),
+}
+
+/// Checks whether the ledger file may be opened, then reads the witness that is asked for.
+pub(crate) fn look<'r, R: Files + AllocGlobal>(
+    rt: &'r R,
+    ledger: &LedgerPath<'r>,
+    asked: WitnessPath<'_>,
+    key: &Key,
+    device: Device,
+) -> Result<FileWitness<'r, R>, Refusal> {
+    match may_open(rt, ledger) {
+        Ok(()) => {}
+        Err(fault) => return Err(Refusal::Ledger(fault, Step::Check)),
+    }
+    match FileWitness::open(rt, asked, ledger.path, &key.id(), device) {
+        Ok(witness) => Ok(witness),
+        Err(WitnessRefusal::Ledger(fault)) => Err(Refusal::Ledger(fault, Step::Check)),
+        Err(WitnessRefusal::Witness(fault)) => Err(Refusal::Witness(fault)),
+    }
+}
+
+/// Returns whether a run that was refused tries again. If another process holds the ledger file, it waits before.
+pub(crate) fn comes_again(turn: &mut Turn<'_>, refusal: Refusal) -> bool {
+    match refusal {
+        Refusal::Ledger(fault, _) => turn.comes_again(fault),
+        Refusal::Witness(_) => false,
+    }
+}
+
+/// Prints why a run can't begin, with `causes` the cause too. Returns the status.
+pub(crate) fn refuse<R: Files + AllocGlobal + Eprint>(
+    rt: &R,
+    refusal: Refusal,
+    ledger: &str,
+    witness: Option<&str>,
+    causes: bool,
+) -> u8
+    ensures status { result ≡ FAULT }
+{
+    match refusal {
+        Refusal::Ledger(fault, step) => {
+            let about = About::Ledger {
+                path: ledger,
+                fault,
+                step,
+            };
+            explain(rt, "ledger", fault, causes, about)
+        }
+        Refusal::Witness(fault) => {
+            let about = match fault {
+                WitnessFault::NotWitness => About::Known(Cause::NoWitness),
+                WitnessFault::NoLine => About::Known(Cause::NoLine),
+                WitnessFault::OutOfMemory => About::Known(Cause::OutOfMemory),
+                WitnessFault::CannotCreate => About::Known(Cause::NoPlace),
+                _ => About::Input(witness.unwrap_or("")),
+            };
+            explain(rt, "witness", fault, causes, about)
+        }
+    }
+}
+
+/// Returns the witness at this path, if one is given.
+pub(crate) fn witness_asked(path: Option<&str>, is_new: bool) -> WitnessPath<'_>
+    ensures path { option_map (λ path. path.now) result.path ≡ option_map (λ path. path.now) path.entry }
+    ensures is_new { result.is_new ≡ is_new }
+{
+    WitnessPath { path, is_new }
+}
+
+/// Returns the ledger file at this path, to be made if there is none and `may_make` is true.
+pub(crate) fn ledger_of(path: &str, may_make: bool) -> LedgerPath<'_>
+    ensures path { result.path.now ≡ path.now }
+    ensures may_make { result.may_make ≡ may_make }
+{
+    LedgerPath { path, may_make }
+}
