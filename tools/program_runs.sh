@@ -351,16 +351,16 @@ fresh
 mkdir files/into
 cp files/numbers.stm 'files/c
 d.stm'
-odd=$(printf 'files/\t\r\033\177\302\205\342\200\216\342\200\250\342\200\256\342\201\251\303\251.stm')
+odd=$(printf 'files/\t\r\033\177\302\205\330\234\342\200\213\342\200\216\342\200\250\342\200\256\342\201\240\342\201\251\357\273\277\303\251.stm')
 cp files/numbers.stm "$odd"
 printf 'files/c\nd.stm\0files/numbers.stm\0' > list
 run verify --key "$key" --quote --null --files-from list "$odd" 'files/\x.stm'
-wants quoted 1 'good files/\t\r\u{1b}\u{7f}\u{85}\u{200e}\u{2028}\u{202e}\u{2069}é.stm bytes 1492
+wants quoted 1 'good files/\t\r\u{1b}\u{7f}\u{85}\u{61c}\u{200b}\u{200e}\u{2028}\u{202e}\u{2060}\u{2069}\u{feff}é.stm bytes 1492
 failed files/\\x.stm: cannot open
 good files/c\nd.stm bytes 1492
 good files/numbers.stm bytes 1492' ''
 run open --key "$key" --quote --null --files-from list "$odd"
-wants quoted-and-opened 0 'opened files/\t\r\u{1b}\u{7f}\u{85}\u{200e}\u{2028}\u{202e}\u{2069}é.stm bytes 1492
+wants quoted-and-opened 0 'opened files/\t\r\u{1b}\u{7f}\u{85}\u{61c}\u{200b}\u{200e}\u{2028}\u{202e}\u{2060}\u{2069}\u{feff}é.stm bytes 1492
 opened files/c\nd.stm bytes 1492
 opened files/numbers.stm bytes 1492' ''
 is opened-under-its-own-name cmp -s 'files/c

@@ -8,7 +8,7 @@ use Rattle.std.proofs.lemmas.List.{take_all}
 use Rattle.std.specs.Char.{digit_value}
 use Rattle.std.specs.Fmt.{digits}
 use Rattle.std.specs.Str.Parse.{AllDigits, digits_value_after}
-use Rattle.path_core.specs.Quotes.{is_hidden, quoted, quoted_text, read_from, read_on, shown, unquoted}
+use Rattle.path_core.specs.Quotes.{is_code, is_hidden, quoted, quoted_text, read_from, read_on, shown, unquoted}
 use Rattle.path_core.specs.declared.quotes.Escape.{Escape}
 use Rattle.path_core.specs.declared.quotes.Escape.TheVariants.{Outside, Begun, Named, Digits}
 use Rattle.path_core.proofs.Shown.{at_the_end, begun, others, small_digit}
@@ -25,32 +25,41 @@ grows (c ∷ cs) n = omega (arith, grows cs (n * 16 + digit_value c))
 no_brace : (c : ℕ) → digit_value c < 16 → c ≢ 125
 no_brace c less is = grind (arith, less, is)
 
-digit_step : (n c : ℕ) → digit_value c < 16 → n * 16 + digit_value c < 0xD800 → read_on (Digits n) c ≡ Some (Digits (n * 16 + digit_value c), None)
+digit_step : (n c : ℕ) → digit_value c < 16 → n * 16 + digit_value c < 0x110000 → read_on (Digits n) c ≡ Some (Digits (n * 16 + digit_value c), None)
 unfolding read_on
-digit_step n c digit less = rw (ne_eqb c 125 (no_brace c digit), lt-ltb (digit_value c) 16 digit, lt-ltb (n * 16 + digit_value c) 0xD800 less) refl
+digit_step n c digit less = rw (ne_eqb c 125 (no_brace c digit), lt-ltb (digit_value c) 16 digit, lt-ltb (n * 16 + digit_value c) 0x110000 less) refl
 
-brace_step : (n : ℕ) → n < 0xD800 → read_on (Digits n) 125 ≡ Some (Outside, Some n)
+brace_step : (n : ℕ) → is_code n ≡ true → read_on (Digits n) 125 ≡ Some (Outside, Some n)
 unfolding read_on
-brace_step n less = rw (lt-ltb n 0xD800 less) refl
+brace_step n code = rw code refl
 
 abbrev then_on : Option (Escape × Option ℕ) → List ℕ → Option (List ℕ)
 then_on step cs = option_and_then (λ next. option_map (λ more. option_to_list next.1 ++ more) (read_from cs next.0)) step
 
-digits_read : (ds : List ℕ) (n : ℕ) (rest : List ℕ) → AllDigits 16 ds → digits_value_after 16 n ds < 0xD800
+digits_read : (ds : List ℕ) (n : ℕ) (rest : List ℕ) → AllDigits 16 ds → digits_value_after 16 n ds < 0x110000 → is_code (digits_value_after 16 n ds) ≡ true
     → read_from (ds ++ 125 ∷ rest) (Digits n) ≡ option_map (λ more. digits_value_after 16 n ds ∷ more) (read_from rest Outside)
-digits_read [] n rest all less = ap (λ step. then_on step rest) (brace_step n less)
-digits_read (c ∷ cs) n rest all less =
+digits_read [] n rest all less code = ap (λ step. then_on step rest) (brace_step n code)
+digits_read (c ∷ cs) n rest all less code =
     ap (λ step. then_on step (cs ++ 125 ∷ rest)) (digit_step n c all.0 (omega (arith, less, grows cs (n * 16 + digit_value c))))
     ∙ silent (read_from (cs ++ 125 ∷ rest) (Digits (n * 16 + digit_value c)))
-    ∙ digits_read cs (n * 16 + digit_value c) rest all.1 less
+    ∙ digits_read cs (n * 16 + digit_value c) rest all.1 less code
 
 -- a test and its answer
 pub either : (b : Bool) → (b ≡ true) ⊎ (b ≡ false)
 either true = inl refl
 either false = inr refl
 
-pub hidden_small : (c : ℕ) → is_hidden c ≡ true → c < 0xD800
+pub hidden_small : (c : ℕ) → is_hidden c ≡ true → c < 0x10000
 hidden_small c hidden = grind (arith, hidden)
+
+code_of : (c : ℕ) → (c < 0xD800) ⊎ (c ≡ 0xFEFF) → is_code c ≡ true
+code_of c (inl less) = rw (lt-ltb c 0xD800 less) refl
+code_of c (inr is) = ap is_code is
+
+hidden_code : (c : ℕ) → is_hidden c ≡ true → is_code c ≡ true
+hidden_code c hidden =
+    let low : (c < 0xD800) ⊎ (c ≡ 0xFEFF) = grind (arith, hidden) in
+    code_of c low
 
 lettered : (c letter read : ℕ) (rest : List ℕ) → shown c ≡ 92 ∷ letter ∷ [] → read_on Begun letter ≡ Some (Outside, Some read) → c ≡ read
     → read_from (shown c ++ rest) Outside ≡ option_map (λ more. c ∷ more) (read_from rest Outside)
@@ -80,14 +89,14 @@ opened : (cs : List ℕ) → read_from (92 ∷ 117 ∷ 123 ∷ cs) Outside ≡ r
 unfolding read_on
 opened cs = silent (read_from (117 ∷ 123 ∷ cs) Begun) ∙ silent (read_from (123 ∷ cs) Named) ∙ silent (read_from cs (Digits 0))
 
-hidden_read : (c : ℕ) (rest : List ℕ) → shown c ≡ codes "\\u{" ++ (digits 16 false c ++ codes "}") → c < 0xD800
+hidden_read : (c : ℕ) (rest : List ℕ) → shown c ≡ codes "\\u{" ++ (digits 16 false c ++ codes "}") → c < 0x10000 → is_code c ≡ true
     → read_from (shown c ++ rest) Outside ≡ option_map (λ more. c ∷ more) (read_from rest Outside)
-hidden_read c rest is less =
+hidden_read c rest is less code =
     let numeral = digits_is_IsNumeral 16 false (omega arith) (omega arith) c (omega (arith, less)) in
     ap (λ cs. read_from (cs ++ rest) Outside) is
     ∙ opened ((digits 16 false c ++ codes "}") ++ rest)
     ∙ ap (λ cs. read_from cs (Digits 0)) (append_assoc (digits 16 false c) (codes "}") rest)
-    ∙ digits_read (digits 16 false c) 0 rest numeral.0.1 (omega (arith, less, numeral.1))
+    ∙ digits_read (digits 16 false c) 0 rest numeral.0.1 (omega (arith, less, numeral.1)) (ap is_code numeral.1 ∙ code)
     ∙ ap (λ n. option_map (λ more. n ∷ more) (read_from rest Outside)) numeral.1
 
 itself_read : (c : ℕ) (rest : List ℕ) → shown c ≡ c ∷ [] → c ≢ 92
@@ -99,7 +108,7 @@ itself_read c rest is other =
 
 other_read : (c : ℕ) (rest : List ℕ) → c ≢ 92 → c ≢ 10 → c ≢ 13 → c ≢ 9 → (is_hidden c ≡ true) ⊎ (is_hidden c ≡ false)
     → read_from (shown c ++ rest) Outside ≡ option_map (λ more. c ∷ more) (read_from rest Outside)
-other_read c rest slash feed return tab (inl hidden) = hidden_read c rest (rw hidden at (others c slash feed return tab)) (hidden_small c hidden)
+other_read c rest slash feed return tab (inl hidden) = hidden_read c rest (rw hidden at (others c slash feed return tab)) (hidden_small c hidden) (hidden_code c hidden)
 other_read c rest slash feed return tab (inr plain) = itself_read c rest (rw plain at (others c slash feed return tab)) slash
 
 by_tests : (c : ℕ) (rest : List ℕ) → ((c == 92) ≡ true) ⊎ ((c == 92) ≡ false) → ((c == 10) ≡ true) ⊎ ((c == 10) ≡ false)

@@ -8,9 +8,15 @@ use Rattle.std.specs.Str.Lossy.{utf8_valid_len}
 use Rattle.path_core.specs.declared.quotes.Escape.{Escape}
 use Rattle.path_core.specs.declared.quotes.Escape.TheVariants.{Outside, Begun, Named, Digits}
 
--- control characters, ends of line, and marks of direction: a terminal doesn't show them, or lets them move other text
+-- control characters, ends of line, characters without width, and marks of direction: a terminal doesn't show them, or lets
+-- them move other text
 abbrev pub is_hidden : ℕ → Bool
-is_hidden c = is_control c || (is_in_range 0x200E 0x200F c || (is_in_range 0x2028 0x202E c || is_in_range 0x2066 0x2069 c))
+is_hidden c = is_control c || (c == 0x061C || (is_in_range 0x200B 0x200F c || (is_in_range 0x2028 0x202E c
+    || (is_in_range 0x2060 0x2069 c || c == 0xFEFF))))
+
+-- the code of a character: none from 0xD800 to 0xDFFF is one
+abbrev pub is_code : ℕ → Bool
+is_code n = nat_lt n 0xD800 || is_in_range 0xE000 0x10FFFF n
 
 -- the characters that a line shows for a character
 unfoldable pub shown : ℕ → List ℕ
@@ -43,8 +49,8 @@ read_on Begun c = if c == 92 then Some (Outside, Some 92) else if c == 110 then 
     else if c == 114 then Some (Outside, Some 13) else if c == 116 then Some (Outside, Some 9)
     else if c == 117 then Some (Named, None) else None
 read_on Named c = if c == 123 then Some (Digits 0, None) else None
-read_on (Digits n) c = if c == 125 then (if nat_lt n 0xD800 then Some (Outside, Some n) else None)
-    else if is_digit c 16 && nat_lt (n * 16 + digit_value c) 0xD800 then Some (Digits (n * 16 + digit_value c), None) else None
+read_on (Digits n) c = if c == 125 then (if is_code n then Some (Outside, Some n) else None)
+    else if is_digit c 16 && nat_lt (n * 16 + digit_value c) 0x110000 then Some (Digits (n * 16 + digit_value c), None) else None
 
 -- nothing is left of an escape
 abbrev pub ends : Escape → Option (List ℕ)

@@ -1,5 +1,5 @@
-//! Names as a line shows them, and back. A backslash, an end of line, a control character and a mark of direction are
-//! escaped, and so is each byte that is in no character. So a name is in one line, and no two are shown alike.
+//! Names as a line shows them, and back. Escaped are a backslash, an end of line, a control character, a mark of direction,
+//! a character without width, and each byte that is in no character. So a name is in one line, and no two are shown alike.
 ghost use Rattle.std.specs.Prelude.{◌≡◌, ◌++◌, ◌<◌, ◌+◌, IfOk, IfSome, MatchOption, OnOk, drop, encode_utf8_all, length};
 ghost use Rattle.std.specs.Prelude.{option_map, option_to_list, slice_index, string_bytes, take};
 ghost use Rattle.std.specs.Str.Lossy.{utf8_valid_len};
@@ -22,7 +22,7 @@ pub enum Escape {
 }
 
 /// Returns a name as a line shows it: `\\` for a backslash, `\n`, `\r` and `\t`, `\u{..}` for other control characters,
-/// U+2028, U+2029 and marks of direction, and `\xHH` for a byte that is in no character.
+/// U+2028, U+2029, marks of direction and characters without width, and `\xHH` for a byte that is in no character.
 pub fn quote(alloc: Global, name: &[u8]) -> Result<String, AllocError>
     ensures { IfOk result (λ text. string_bytes text ≡ quoted name.now) }
 {
@@ -101,7 +101,9 @@ fn is_hidden(c: char) -> bool
     ensures { result ≡ is_hidden c }
 {
     c.is_control()
-        || matches!(c, '\u{200e}'..='\u{200f}' | '\u{2028}'..='\u{202e}' | '\u{2066}'..='\u{2069}')
+        || c == '\u{61c}'
+        || matches!(c, '\u{200b}'..='\u{200f}' | '\u{2028}'..='\u{202e}' | '\u{2060}'..='\u{2069}')
+        || c == '\u{feff}'
 }
 
 /// Returns the name that a line shows as this text. `None` if it isn't UTF-8, or the text has escapes of other kinds.
@@ -177,15 +179,15 @@ fn in_digits(code: u32, c: char) -> Option<(Escape, Option<char>)>
 {
     if c == '}' {
         return match char::from_u32(code) {
-            Some(read) if code < 0xd800 => Some((Escape::Outside, Some(read))),
-            _ => None,
+            Some(read) => Some((Escape::Outside, Some(read))),
+            None => None,
         };
     }
     let Some(digit) = c.to_digit(16) else {
         return None;
     };
     let more = u64::from(code) * 16 + u64::from(digit);
-    if more < 0xd800 {
+    if more < 0x11_0000 {
         Some((Escape::Digits(more as u32), None))
     } else {
         None
