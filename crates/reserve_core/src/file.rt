@@ -2,13 +2,27 @@
 ghost use Rattle.std.specs.Prelude.{◌≡◌, ◌≢◌, IfErr, IfOk, MatchResult, OnOk, Err};
 ghost use Rattle.sqlite_wal.specs.Reads.{AreClean};
 ghost use Rattle.sqlite.specs.Held.{Held};
+ghost use Rattle.sqlite.specs.State.{store_error};
+ghost use Rattle.ranges_core.specs.Faults.{IsRefusal, fault_of};
 ghost use Rattle.reserve_core.specs.Folded.{AreFolded, AreLeft, LeftBy};
 
 use crate::keeper::Keeper;
 use ranges_core::ReserveFault;
 use sqlite::{Alter, FileStore, Files, MemStore};
 use sqlite_disk::Disk;
+use sqlite_trees::error::StoreError;
 use sqlite_trees::store::Store;
+
+// The fault of a store that failed with this error.
+fn fault_of(error: StoreError) -> ReserveFault
+    ensures value { result ≡ fault_of (store_error error) }
+    ensures named { IsRefusal result }
+{
+    match error {
+        StoreError::OutOfMemory => ReserveFault::OutOfMemory,
+        _ => ReserveFault::Store,
+    }
+}
 
 /// A store that can copy its log into its file.
 pub trait Fold: Alter + Drop {
@@ -22,10 +36,11 @@ pub trait Fold: Alter + Drop {
     ghost is_folded: { Self → Self.Left → Type 0 };
 
     /// Rolls back what wasn't committed, copies the log into the file, and syncs the file. If that fails, the log
-    /// stays.
-    fn fold(self) -> Result<Self::Left, Self::Left>
-        ensures left { MatchResult result (is_left self) (is_left self) }
-        ensures folded { IfOk result (is_folded self) };
+    /// stays. The fault is `OutOfMemory` if memory was refused for it, else `Store`.
+    fn fold(self) -> Result<Self::Left, (ReserveFault, Self::Left)>
+        ensures left { MatchResult result (is_left self) (λ e. is_left self e.1) }
+        ensures folded { IfOk result (is_folded self) }
+        ensures named { IfErr result (λ e. IsRefusal e.0) };
 }
 
 impl<D: Disk + Drop> Fold for FileStore<D> {
@@ -35,15 +50,16 @@ impl<D: Disk + Drop> Fold for FileStore<D> {
 
     ghost is_folded = { λ store left. AreClean D.Disk left.log left.db → AreFolded store left };
 
-    fn fold(self) -> Result<Files<D>, Files<D>>
-        ensures left { MatchResult result (AreLeft self) (AreLeft self) }
+    fn fold(self) -> Result<Files<D>, (ReserveFault, Files<D>)>
+        ensures left { MatchResult result (AreLeft self) (λ e. AreLeft self e.1) }
         ensures folded { IfOk result (λ left. AreClean D.Disk left.log left.db → AreFolded self left) }
+        ensures named { IfErr result (λ e. IsRefusal e.0) }
     {
         let mut store = self;
         store.rollback();
         match store.checkpoint() {
             Ok(()) => Ok(store.close()),
-            Err(_) => Err(store.close()),
+            Err(error) => Err((fault_of(error), store.close())),
         }
     }
 }
@@ -56,9 +72,10 @@ impl Fold for MemStore {
 
     ghost is_folded = { λ store left. left ≡ store };
 
-    fn fold(self) -> Result<MemStore, MemStore>
-        ensures left { MatchResult result (λ left. left ≡ self) (λ left. left ≡ self) }
+    fn fold(self) -> Result<MemStore, (ReserveFault, MemStore)>
+        ensures left { MatchResult result (λ left. left ≡ self) (λ e. e.1 ≡ self) }
         ensures folded { IfOk result (λ left. left ≡ self) }
+        ensures named { IfErr result (λ e. IsRefusal e.0) }
     {
         Ok(self)
     }
@@ -78,12 +95,13 @@ pub enum LedgerFile<S: Fold> {
 
 impl<S: Fold> LedgerFile<S> {
     /// Copies the log into the ledger file and syncs the file, so that it holds what was committed without its log. A
-    /// keeper is folded once. Returns `Store` if the copying failed, or if there is no keeper.
+    /// keeper is folded once. Returns `OutOfMemory` if memory was refused for the copying, and `Store` if it failed
+    /// otherwise or there is no keeper.
     pub fn fold(&mut self) -> Result<(), ReserveFault>
         ensures kept { (k : Held S) → self.old ≡ LedgerFile.Kept k → (left : S.Left)
             × (self.new ≡ LedgerFile.Folded left) × LeftBy S.Store S.is_left k left
             × OnOk result (LeftBy S.Store S.is_folded k left) }
-        ensures named { IfErr result (λ e. e ≡ ReserveFault.Store) }
+        ensures named { IfErr result IsRefusal }
         ensures other { ((k : Held S) → self.old ≢ LedgerFile.Kept k)
             → (self.new ≡ self.old) × (result ≡ Err ReserveFault.Store) }
     {
@@ -93,9 +111,9 @@ impl<S: Fold> LedgerFile<S> {
                     *self = LedgerFile::Folded(files);
                     Ok(())
                 }
-                Err(files) => {
+                Err((fault, files)) => {
                     *self = LedgerFile::Folded(files);
-                    Err(ReserveFault::Store)
+                    Err(fault)
                 }
             },
             other => {

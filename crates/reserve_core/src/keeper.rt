@@ -4,7 +4,7 @@ ghost use Rattle.std.specs.Prelude.{IfErr, OnOk, OnErr, Err, MatchResult, ◌⊎
 ghost use Rattle.sqlite.specs.Held.{state};
 ghost use Rattle.sqlite.specs.State.{HasCleanDisk, Survives};
 ghost use Rattle.ranges_core.specs.Calls.{CommitsNothing, Unchanged, WasOpen, WhileOpen};
-ghost use Rattle.ranges_core.specs.Faults.{IsBad};
+ghost use Rattle.ranges_core.specs.Faults.{IsBad, IsRefusal};
 ghost use Rattle.ranges_core.specs.Lasting.{LeavesOnlyThis, StillLast};
 ghost use Rattle.ranges_core.specs.Reservations.{Lists, Holds, Opened, next_of, no_lists, ranges_of_pairs, with_range};
 ghost use Rattle.ranges_core.specs.Tables.{no_schema};
@@ -46,9 +46,8 @@ impl<S: Alter> Keeper<S> {
     /// only if that pass finds no lists. Nobody else may write the database from now on.
     ///
     /// Returns `BadStore` if the schema is not empty and one of the two tables cannot be read by its column names, or
-    /// if the rows hold no lists. Returns `Store` in these cases:
-    /// - The database refuses a statement.
-    /// - Memory could not be allocated.
+    /// if the rows hold no lists. Returns `OutOfMemory` if memory was refused, and `Store` in these cases:
+    /// - The database refuses a statement for another cause.
     /// - The tables differ from those that the keeper makes, or are not the only ones.
     /// - The connection is in a transaction.
     ///
@@ -63,7 +62,7 @@ impl<S: Alter> Keeper<S> {
         ensures never { IfOk result (λ k. HasCleanDisk (state S.Store k) → IsBad (state S.Store connection).now → ⊥) }
         ensures bad { IfErr result (λ e. HasCleanDisk (state S.Store e.1) → e.0 ≡ ReserveFault.BadStore
             → IsBad (state S.Store connection).now) }
-        ensures named { IfErr result (λ e. (e.0 ≡ ReserveFault.Store) ⊎ (e.0 ≡ ReserveFault.BadStore)) }
+        ensures named { IfErr result (λ e. IsRefusal e.0 ⊎ (e.0 ≡ ReserveFault.BadStore)) }
         ensures same { IfErr result (λ e. WhileOpen S.Store e.1 (Unchanged S.Store connection e.1)) }
         ensures crash { MatchResult result
             (λ k. Survives (state S.Store connection) (state S.Store k) (λ trees. (db : _) × Holds db no_lists
@@ -95,9 +94,9 @@ impl<S: Alter> Keeper<S> {
     /// - `TooMany`: `count` is over 65,535.
     /// - `FieldSpent`: fewer than `count` numbers are left.
     ///
-    /// `Store` means that the database failed before the last test could be made, or refused a statement, or that
-    /// memory could not be allocated. `BadStore` comes only if somebody else wrote the database, or its disk returned
-    /// other bytes. If a disk fault closed the connection, the files are as after a crash.
+    /// `Store` means that the database failed before the last test could be made, or refused a statement. If it was
+    /// refused memory for that, it is `OutOfMemory`. `BadStore` comes only if somebody else wrote the database, or its
+    /// disk returned other bytes. If a disk fault closed the connection, the files are as after a crash.
     pub fn reserve(
         &mut self,
         key_id: &[u8; 32],
@@ -193,12 +192,13 @@ impl<S: Alter> Keeper<S> {
         };
         match append_range(&mut self.conn, key_id.as_slice(), number, mark, count) {
             Ok(()) => Ok(range),
-            Err(_) => Err(ReserveFault::Store),
+            Err(error) => Err(ReserveFault::of(error)),
         }
     }
 
-    /// Returns the ranges of the key and device as (`lo`, `size`), in order of `lo`. A refusal is `Store`. `BadStore`
-    /// comes only if somebody else wrote the database, or its disk returned other bytes. Nothing changes.
+    /// Returns the ranges of the key and device as (`lo`, `size`), in order of `lo`. A refusal is `Store` or
+    /// `OutOfMemory`. `BadStore` comes only if somebody else wrote the database, or its disk returned other bytes.
+    /// Nothing changes.
     pub fn taken(
         &mut self,
         key_id: &[u8; 32],
@@ -207,7 +207,7 @@ impl<S: Alter> Keeper<S> {
         ensures lists { HasCleanDisk (state S.Store self.new) → (lists : Lists)
             → Holds (state S.Store self.old).now lists
             → IfOk result (λ ranges. ranges_of_pairs ranges.items ≡ lists key_id.now device) }
-        ensures named { IfErr result (λ e. (e ≡ ReserveFault.Store) ⊎ (e ≡ ReserveFault.BadStore)) }
+        ensures named { IfErr result (λ e. IsRefusal e ⊎ (e ≡ ReserveFault.BadStore)) }
         ensures sound { HasCleanDisk (state S.Store self.new) → result ≢ Err ReserveFault.BadStore }
         ensures live { HasCleanDisk (state S.Store self.new) → OnOk result (IsTrue (state S.Store self.old).is_open) }
         ensures was_open { WasOpen S.Store self.old self.new }
