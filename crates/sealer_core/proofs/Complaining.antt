@@ -3,7 +3,7 @@ use Rattle.std.proofs.Common.{List, [], Option, ℕ, refl, sym, inl, inr, append
 use Rattle.std.proofs.KnownBytes.{Appends-nil}
 use Rattle.io_core.specs.Streams.{Appends, AppendsFront}
 use Rattle.command_core.specs.Printing.{IsComplaint}
-use Rattle.ranges_core.specs.declared.fault.ReserveFault.TheVariants.{ZeroCount, TooMany, FieldSpent, Store, BadStore, BelowFloor}
+use Rattle.ranges_core.specs.declared.fault.ReserveFault.TheVariants.{ZeroCount, TooMany, FieldSpent, Store, BadStore, BelowFloor, OutOfMemory}
 use Rattle.sealer_core.specs.Complaints.{complaint}
 use Rattle.sealer_core.specs.declared.trouble.RunFault.{RunFault}
 use Rattle.sealer_core.specs.declared.trouble.RunFault.TheVariants.{Unreserved, NoLedger, NoJournal, JournalCut, Unrecorded}
@@ -15,6 +15,7 @@ is_complaint (Unreserved (FieldSpent left)) = inr (inr (inl (left, refl)))
 is_complaint (Unreserved Store) = inr (inr (inr (inl refl)))
 is_complaint (Unreserved BadStore) = inr (inr (inr (inr (inl refl))))
 is_complaint (Unreserved BelowFloor) = inr (inr (inr (inr (inr (inr (inr (inr (inl refl))))))))
+is_complaint (Unreserved OutOfMemory) = inr (inr (inr (inr (inr (inl refl)))))
 is_complaint NoLedger = inr (inr (inr (inr (inr (inl refl)))))
 is_complaint NoJournal = inr (inr (inr (inr (inr (inr (inl refl))))))
 is_complaint JournalCut = inr (inr (inr (inr (inr (inr (inr (inl refl)))))))
