@@ -1,5 +1,5 @@
 //! The ledger file.
-ghost use Rattle.std.specs.Prelude.{◌≡◌, ◌≢◌, ◌≤◌, ◌⊎◌, false, [], length, IfOk, IsTrue};
+ghost use Rattle.std.specs.Prelude.{◌≡◌, ◌≢◌, ◌≤◌, ◌⊎◌, ◌↔◌, false, [], length, IfOk, IsTrue};
 ghost use Rattle.std.specs.IoError.{error_kind};
 ghost use Rattle.sqlite_disk.specs.Disk.{MoreFaults};
 ghost use Rattle.sqlite_wal.specs.Files.{image_at};
@@ -33,7 +33,6 @@ use thiserror::Error;
 pub enum LedgerFault {
     /// The folder is missing, the file is no database or can't be read, its log doesn't go with it, its tables are
     /// other than a ledger's or not alone, a file has more than one name, or another database left a journal beside it.
-    /// Or memory was refused while the keeper looked at the tables and rows: `ReserveFault::Store` is both.
     #[error("cannot open")]
     CannotOpen,
     /// Memory was refused, and no number was reserved.
@@ -182,7 +181,7 @@ fn length_of<R: Files + AllocGlobal>(rt: &R, path: &str) -> io::Result<Option<u6
 
 /// Opens this ledger file, with its keeper. The file is made if there is none. A path that names no file (an empty one,
 /// `:memory:` or a URI) is refused, since two runs must always share a file. A refusal keeps the pages of the log. It is
-/// `Held` if another process has the database open, and `OutOfMemory` if the database was refused memory to open it.
+/// `Held` if another process has the database open, and `OutOfMemory` if the database or its keeper was refused memory.
 ///
 /// If none may be made, a database without tables is `NotThere`, even one that this call began because the file was
 /// gone. `S` denotes what the files hold, as in the database's own way to open a path.
@@ -281,8 +280,19 @@ fn few_pages(rt: &HostRuntime) -> Option<Options> {
     Some(options)
 }
 
-// The keeper of a ledger that was opened. A database without tables is `NotThere` if none may be made. If the keeper is
-// refused memory, that is `CannotOpen`: its fault doesn't tell that from other tables.
+// The fault of a ledger whose keeper was refused with this fault.
+fn fault_of(fault: ReserveFault) -> LedgerFault
+    ensures memory { (result ≡ LedgerFault.OutOfMemory) ↔ (fault ≡ ReserveFault.OutOfMemory) }
+    ensures bad { (result ≡ LedgerFault.NotLedger) ↔ (fault ≡ ReserveFault.BadStore) }
+{
+    match fault {
+        ReserveFault::OutOfMemory => LedgerFault::OutOfMemory,
+        ReserveFault::BadStore => LedgerFault::NotLedger,
+        _ => LedgerFault::CannotOpen,
+    }
+}
+
+// The keeper of a ledger that was opened. A database without tables is `NotThere` if none may be made.
 pub(crate) fn keeper_over<S: Alter + Drop>(
     connection: Connection<S>,
     may_make: bool,
@@ -299,8 +309,7 @@ pub(crate) fn keeper_over<S: Alter + Drop>(
     }
     match Keeper::open(connection) {
         Ok(keeper) => Ok(keeper),
-        Err((ReserveFault::BadStore, _)) => Err(LedgerFault::NotLedger),
-        Err(_) => Err(LedgerFault::CannotOpen),
+        Err((fault, _)) => Err(fault_of(fault)),
     }
 }
 
