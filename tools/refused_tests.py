@@ -24,6 +24,7 @@ TESTS = (
     ("journal_tests", "tests::a_refused_growth_changes_nothing", 5),
     ("ledger_tests", "tests::two_seats_share_a_range", 10),
     ("ledger_tests", "tests::a_settlement_takes_no_memory", 8),
+    ("reserve_tests", "refused::a_refused_growth_is_no_other_fault", 50),
     ("crew_tests", "sealed::a_refused_growth_is_out_of_memory", 10),
     ("crew_tests", "seats::a_refused_growth_leaves_the_next_number", 10),
     ("batch_tests", "tests::a_refused_growth_loses_no_number", 10),

@@ -8,6 +8,8 @@ mod faults;
 #[cfg(test)]
 mod folds;
 #[cfg(test)]
+mod refused;
+#[cfg(test)]
 mod stops;
 #[cfg(test)]
 mod store;

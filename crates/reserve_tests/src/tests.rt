@@ -234,13 +234,14 @@ fn a_refused_database_is_handed_back(rt: HostRuntime) {
     assert!(rt; found == Some((ReserveFault::BadStore, 1)));
 }
 
-static FAULTS: [(ReserveFault, u32, &str); 6] = [
+static FAULTS: [(ReserveFault, u32, &str); 7] = [
     (ReserveFault::ZeroCount, 30, "no files"),
     (ReserveFault::TooMany, 31, "too many files"),
     (ReserveFault::FieldSpent { left: 7 }, 32, "7 numbers left"),
     (ReserveFault::Store, 33, "store failed"),
     (ReserveFault::BadStore, 34, "not a ledger"),
     (ReserveFault::BelowFloor, 35, "older than its witness"),
+    (ReserveFault::OutOfMemory, 36, "out of memory"),
 ];
 
 fn has_text(alloc: Global, fault: ReserveFault, text: &str) -> Result<bool, AllocError> {

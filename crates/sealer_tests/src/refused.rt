@@ -129,7 +129,7 @@ fn is_kept(alloc: Global, folder: &MemoryFolder, out: &MemoryOuts, status: u8) -
         // There was no memory for a line.
         (2, "") => { sealed < 3 && failed == 0 && there == 3 && has_counts(alloc, journal, 3, 0) }
         (2, "journal: out of memory\n") => sealed == 3 && journal.is_empty(),
-        (2, "ledger: out of memory\n" | "ledger: store failed\n") => {
+        (2, "ledger: out of memory\n") => {
             (sealed, failed, there) == (0, 0, 0) && journal.is_empty()
         }
         _ => false,
