@@ -37,15 +37,17 @@ HARMLESS = ("REFUSE_THREADS", "REFUSE_BEYOND")
 
 TEXTS = re.compile(
     r"usage: (an argument is no text|out of memory|cannot read the list)|error: out of memory|key: cannot open|journal: (cannot create|out of memory)"
-    r"|ledger: (cannot open|store failed|out of memory)|audit: out of memory"
+    r"|ledger: out of memory|audit: out of memory"
 )
+# The text of a ledger that is always refused. Of any other, refused memory is told as memory.
+REFUSED = "ledger: cannot open"
 # If memory is refused while the run's own files are looked up, a stream's input isn't read.
 FAULT = re.compile(r"failed (\S+): (out of memory|cannot open|cannot create)|failed -: (read failed|spool failed)|failed -: chunk 6 does not check")
 DONE = re.compile(r"sealed (\S+) file ([0-9]+) bytes ([0-9]+)|(?:opened|good) (\S+) bytes ([0-9]+)|legal: .*|key [0-9a-f]{14} device .*")
 # Texts that some run must print.
 WANTED = (
     "failed a: out of memory", "failed -: out of memory", "failed long.stm: out of memory", "ledger: out of memory", "journal: out of memory", "audit: out of memory",
-    "failed -: spool failed", "error: out of memory", "usage: an argument is no text", "ledger: store failed", "ledger: cannot open",
+    "failed -: spool failed", "error: out of memory", "usage: an argument is no text", "ledger: cannot open",
 )
 
 
@@ -164,7 +166,8 @@ class Checker:
         wanted = max(len(kind.made), 1)
         if self.status not in (0, 1, 2):
             return self.differs("another status")
-        if self.err and (len(self.err) != 1 or not TEXTS.fullmatch(self.err[0]) or self.status != 2):
+        known = len(self.err) == 1 and (TEXTS.fullmatch(self.err[0]) or kind.refused and self.err[0] == REFUSED)
+        if self.err and (not known or self.status != 2):
             self.differs("another text")
         if any(line not in faults and not DONE.fullmatch(line) for line in self.out) or len(self.out) > wanted:
             self.differs("another line")
