@@ -969,12 +969,16 @@ is progress-on-a-terminal test "$(python3 terminal.py "$sealer" verify --key own
 # Key files.
 digits=$(cat "$key")
 fresh
-for end in '' '\n' '\r\n'; do
-    printf "%s$end" "${digits^^}" > good-key
-    run verify --key good-key files/numbers.stm
-    wants "key with $end" 0 'good files/numbers.stm bytes 1492' ''
+mixed=${digits::32}$(tr a-f A-F <<< "${digits:32}")
+for found in "${digits^^}" "$mixed"; do
+    for end in '' '\n' '\r\n'; do
+        printf "%s$end" "$found" > good-key
+        run verify --key good-key files/numbers.stm
+        wants "key $found with $end" 0 'good files/numbers.stm bytes 1492' ''
+    done
 done
-for content in "${digits%?}" "${digits%?}\n" "$digits\n\n" "$digits " "$digits\r" "${digits%?}g" "${digits}00" ''; do
+for content in "${digits%?}" "${digits%?}\n" "$digits\n\n" "$digits " "$digits\r" "$digits\n\r" "$digits\r\n\n" "${digits%?}g" "${digits%?} " \
+    "${digits}00" "$digits\r\nand more than sixty-seven bytes" ''; do
     printf "$content" > bad-key
     run verify --key bad-key files/numbers.stm
     wants "key $content" 2 '' 'key: not a key file'

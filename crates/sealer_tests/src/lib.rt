@@ -1,4 +1,4 @@
-//! Tests of the commands of `sealer_core` over folders and streams in memory, and of its key files.
+//! Tests of the commands of `sealer_core` over folders and streams in memory.
 #![tactic(auto)]
 
 #[cfg(test)]
@@ -17,8 +17,6 @@ mod failing;
 mod files;
 #[cfg(test)]
 mod inputs;
-#[cfg(test)]
-mod keys;
 #[cfg(test)]
 mod labels;
 #[cfg(test)]
