@@ -3292,6 +3292,11 @@ if command -v strace > /dev/null; then
     status=$?
     wants witness-not-renewed 2 '' 'witness: write failed'
     is witness-not-renewed-as-it-was cmp -s files/real files/good
+    strace -f -qq -o /dev/null -e trace=rename -e inject=rename:error=EIO "$sealer" pipe --key "$key" --ledger files/moved/ledger --device 1 \
+        --witness files/w < files/f8 > out 2> err
+    status=$?
+    wants witness-not-renewed-by-a-stream 2 '' 'witness: write failed'
+    is witness-not-renewed-by-a-stream-as-it-was cmp -s files/real files/good
 fi
 is witness-not-renewed-no-file test "$(ls files/f8.stm files/real.* 2> /dev/null)" = ''
 moved files/f8
@@ -3300,9 +3305,11 @@ goes witness-after-that
 moved files/real
 wants witness-is-no-file 1 'failed files/real: cannot open' ''
 # a stream
+next_seen() { sed -n 's/.* device 1 next \([0-9]*\) .*/\1/p' files/real; }
+number=$(next_seen)
 run pipe --key "$key" --ledger files/moved/ledger --device 1 --witness files/w < files/f9
-goes witness-stream
-is witness-of-the-stream test "$(sed -n 's/.* device 1 next \([0-9]*\) .*/\1/p' files/real)" -gt 9
+is witness-stream test "$status $(cat err)" = "0 sealed - file $number bytes 2"
+is witness-of-the-stream test "$(next_seen)" = $((number + 1)) -a "$number" -ge 9
 
 # Two runs at once on one missing ledger: no number is issued twice, and one that is refused says so.
 for i in 1 2 3 4 5 6 7 8 9 10; do

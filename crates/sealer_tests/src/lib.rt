@@ -41,5 +41,3 @@ mod three_chunks;
 mod traces;
 #[cfg(test)]
 mod unpipes;
-#[cfg(test)]
-mod witnesses;
