@@ -20,25 +20,31 @@ pub(crate) struct Begun<J: Drop> {
     pub(crate) path: Option<String>,
 }
 
-/// Begins a run that seals: reads the key file, and creates the journal, at the path that was given or in this folder. A
-/// fault is printed, with `causes` its cause too, and the error is its status.
+/// What a run that seals begins with, as it is asked for.
+#[derive(Clone, Copy)]
+pub(crate) struct Beginning<'a> {
+    /// The path of its key file.
+    pub(crate) key: &'a str,
+    /// The path of its ledger file, which no journal may be.
+    pub(crate) ledger: &'a str,
+    /// Where its journal is made.
+    pub(crate) journal: JournalPlace<'a>,
+}
+
+/// Begins a run that seals: reads the key file, and creates the journal. A fault is printed, with `causes` its cause too,
+/// and the error is its status.
 pub(crate) fn begin<R: Files + AllocGlobal + Clock + Eprint>(
     rt: &R,
-    key: &str,
-    ledger: &str,
-    given: Option<&str>,
-    folder: Option<&str>,
-    device: Device,
+    asked: Beginning<'_>,
     causes: bool,
 ) -> Result<Begun<ToWrite<R::File>>, u8>
     ensures status { IfErr result (λ status. status ≡ FAULT) }
 {
-    let key = match key_at(rt, key, causes) {
+    let key = match key_at(rt, asked.key, causes) {
         Ok(key) => key,
         Err(status) => return Err(status),
     };
-    let place = journal_place(given, folder, device);
-    match new_journal(rt, place, ledger) {
+    match new_journal(rt, asked.journal, asked.ledger) {
         Ok((journal, path)) => Ok(Begun { key, journal, path }),
         Err(fault) => {
             let about = About::Known(fault.cause());
@@ -47,8 +53,8 @@ pub(crate) fn begin<R: Files + AllocGlobal + Clock + Eprint>(
     }
 }
 
-// Where the journal is made: at this path, or in this folder for this device.
-fn journal_place<'a>(
+/// Returns where the journal is made: at this path, or in this folder for this device.
+pub(crate) fn journal_place<'a>(
     path: Option<&'a str>,
     folder: Option<&'a str>,
     device: Device,

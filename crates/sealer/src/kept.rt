@@ -1,5 +1,5 @@
 //! Which FILEs a run processes: all, or with `--skip-existing` those whose output doesn't exist yet.
-ghost use Rattle.std.specs.Prelude.{◌≡◌, ◌≢◌, ℕ, IfErr, IfOk, List, OnOk, [], false, map};
+ghost use Rattle.std.specs.Prelude.{◌≡◌, ◌≢◌, ℕ, IfErr, IfOk, List, OnOk, [], false, map, true};
 ghost use Rattle.std.specs.List.{AllPairs};
 ghost use Rattle.path_core.specs.Places.{AreApart};
 ghost use Rattle.path_core.specs.Trees.{places};
@@ -7,16 +7,37 @@ ghost use Rattle.io_core.specs.Streams.{Appends};
 ghost use Rattle.system_files.specs.Kept.{IsSplit, kept_text};
 ghost use Rattle.system_files.specs.declared.names.Target.TheVariants.{Into, Tree};
 
+use crate::files::names_for;
 use crate::telling::{explain_clash, origin_of, tell_clashes};
 use crate::{FAULT, complain};
 use clap::ArgMatches;
-use command_line::UsageFault;
+use command_line::{Naming, UsageFault};
 use ledger_core::Sink;
 use std::alloc::Global;
 use std::rt::Files;
 use system_files::{
-    Destination, PlaceFault, Target, are_apart, are_placed_apart, print_kept, split_names,
+    Destination, Makes, PlaceFault, Target, are_apart, are_placed_apart, print_kept, split_names,
+    target_of,
 };
+
+/// Returns where the outputs of a run go, and what they are: in or below this folder, if one is given.
+pub(crate) fn destination_of<'a>(
+    makes: Makes,
+    folder: Option<&'a str>,
+    parents: bool,
+    naming: Naming,
+) -> Destination<'a>
+    ensures makes { result.makes ≡ makes }
+    ensures shared { naming ≡ Naming.KeepGoing → result.may_share ≡ true }
+    ensures apart { naming ≢ Naming.KeepGoing → result.may_share ≡ false }
+{
+    Destination {
+        makes,
+        target: target_of(folder, parents),
+        names: names_for(naming),
+        may_share: naming == Naming::KeepGoing,
+    }
+}
 
 /// Returns the FILEs that a run processes: all of these names, or with `skip` those whose output doesn't exist yet. It
 /// prints a line for each of the others. If outputs go into, or below, one folder, and none may be shared, no two of the

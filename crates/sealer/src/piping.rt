@@ -17,7 +17,8 @@ ghost use Rattle.sealer_core.specs.Sealing.{FoldsFiles, IsWritten, ReservesFiles
 ghost use Rattle.sealer.specs.Status.{IsOfPiping, IsStatusOf};
 
 use crate::beginning::{
-    Begun, Refusal, begin, comes_again, journal_path, ledger_of, look, refuse, witness_asked,
+    Beginning, Begun, Refusal, begin, comes_again, journal_path, journal_place, ledger_of, look,
+    refuse, witness_asked,
 };
 use crate::{Streams, complain};
 use clap::ArgMatches;
@@ -82,15 +83,12 @@ fn pipe_to<
         (E.contents result.1.errors.0) }
 {
     let causes = streams.terminals.causes;
-    let Begun { key, journal, path } = match begin(
-        rt,
-        request.key,
-        request.ledger,
-        request.journal,
-        request.journal_in,
-        request.device,
-        causes,
-    ) {
+    let asked = Beginning {
+        key: request.key,
+        ledger: request.ledger,
+        journal: journal_place(request.journal, request.journal_in, request.device),
+    };
+    let Begun { key, journal, path } = match begin(rt, asked, causes) {
         Ok(begun) => begun,
         Err(status) => return (status, streams),
     };

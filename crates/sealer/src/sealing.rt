@@ -16,13 +16,14 @@ ghost use Rattle.sealer_core.specs.Sealing.{FoldsFiles, Happened, HasSealed, IsO
 ghost use Rattle.sealer.specs.Status.{IsOfCommand, IsStatusOf, IsStatusOver};
 
 use crate::beginning::{
-    Begun, Refusal, begin, comes_again, ledger_of, look, refuse, witness_asked,
+    Beginning, Begun, Refusal, begin, comes_again, journal_place, ledger_of, look, refuse,
+    witness_asked,
 };
-use crate::files::{clear, names_for, outs_of, progress_of, streams_of};
-use crate::kept::worked_of;
+use crate::files::{clear, outs_of, progress_of, streams_of};
+use crate::kept::{destination_of, worked_of};
 use crate::{OverFiles, Streams, complain};
 use clap::ArgMatches;
-use command_line::{Naming, SealRequest, naming_asked, seal_request};
+use command_line::{SealRequest, naming_asked, seal_request};
 use container_core::Key;
 use sealer_core::{
     LedgerFile, MAX_BYTES, MAX_LANES, MAX_WINDOW, MAX_WORKERS, Outs, Report, SealOptions,
@@ -33,7 +34,7 @@ use std::io::Write;
 use std::rt::{Clock, Files};
 use std::sync::Wait;
 use std::thread::Threads;
-use system_files::{Destination, FileOptions, Makes, OwnPaths, Step, SystemFiles, target_of};
+use system_files::{FileOptions, Makes, OwnPaths, Step, SystemFiles};
 use system_ledger::{LedgerFault, MAX_TRIES, Turn, close_ledger, open_ledger};
 
 /// Seals the files of these names. Returns the status, with the streams.
@@ -57,12 +58,7 @@ pub(crate) fn seal<
     };
     let mut streams = streams;
     let naming = naming_asked(matches);
-    let to = Destination {
-        makes: Makes::Container,
-        target: target_of(request.into, request.parents),
-        names: names_for(naming),
-        may_share: naming == Naming::KeepGoing,
-    };
+    let to = destination_of(Makes::Container, request.into, request.parents, naming);
     let causes = streams.terminals.causes;
     let output = &mut streams.output;
     let files = match worked_of(rt, matches, to, request.skip, names, output, causes) {
@@ -127,15 +123,12 @@ fn seal_to<
     let progress = folder.progress;
     let terminals = streams.terminals;
     let causes = terminals.causes;
-    let Begun { key, journal, path } = match begin(
-        rt,
-        request.key,
-        request.ledger,
-        request.journal,
-        request.journal_in,
-        request.device,
-        causes,
-    ) {
+    let asked = Beginning {
+        key: request.key,
+        ledger: request.ledger,
+        journal: journal_place(request.journal, request.journal_in, request.device),
+    };
+    let Begun { key, journal, path } = match begin(rt, asked, causes) {
         Ok(begun) => begun,
         Err(status) => return (status, streams),
     };

@@ -65,8 +65,8 @@ pub fn split_names<'n, R: Files + AllocGlobal>(
     Ok(Split { kept, others })
 }
 
-// What names the output of this FILE there: its base name, or its place. `None` if it has none, or needs none.
-fn key_of(alloc: Global, to: Target<'_>, name: &str) -> Result<Option<String>, AllocError> {
+/// Returns what names the output of this FILE there: its base name, or its place. `None` if it has none, or needs none.
+pub fn output_key(alloc: Global, to: Target<'_>, name: &str) -> Result<Option<String>, AllocError> {
     match to {
         Target::AsNamed => Ok(None),
         Target::Into(_) => match last_name(name) {
@@ -94,7 +94,7 @@ fn shared_keys(
     }
     let mut seen = BTreeSet::new(alloc);
     for name in names {
-        if let Some(key) = key_of(alloc, to.target, name)? {
+        if let Some(key) = output_key(alloc, to.target, name)? {
             if seen.contains(&key) {
                 shared.insert(key)?;
             } else {
@@ -123,7 +123,7 @@ fn is_shared(alloc: Global, to: Destination<'_>, shared: &BTreeSet<String>, name
     if shared.is_empty() {
         return false;
     }
-    match key_of(alloc, to.target, name) {
+    match output_key(alloc, to.target, name) {
         Ok(Some(key)) => shared.contains(&key),
         Ok(None) => false,
         Err(_) => true,

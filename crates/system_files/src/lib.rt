@@ -22,7 +22,7 @@ pub use crate::files::{
 };
 pub use crate::input::{FileInput, OneOf, can_reopen_input};
 pub use crate::journals::{JournalFault, JournalPlace, new_journal};
-pub use crate::kept::{Destination, Makes, Split, print_kept, split_names};
+pub use crate::kept::{Destination, Makes, Split, output_key, print_kept, split_names};
 pub use crate::lines::{Lines, Style};
 pub use crate::names::{Names, Target, target_of};
 pub use crate::own::{OwnPaths, StandardInput};
