@@ -81,9 +81,10 @@ OF_NAMES = {
     "cause: {unit} {number} of the list is {wanted}": ("cause: line N of the list is {fault}", ("Empty", "NotText"), OF_LISTS),
     "list: {unit} {number}: {fault}": ("list: line N: {fault}", ("Empty",), OF_LISTS),
     "list: {unit} {number}: {fault}: {name}": ("list: line N: {fault}: NAME", ("NotText",), OF_LISTS),
+    "list: {unit} {number}: - cannot be standard input": ("list: line N: - cannot be standard input", ("",), "open verify"),
     "list: {unit} {number}: no last name: {name}": ("list: line N: no last name: NAME", ("",), OF_OUTPUTS),
-    "list: {unit} {number}: its output is that of {unit} {other}": ("list: line N: its output is that of line N", ("",), OF_OUTPUTS),
-    "list: {unit} {number}: its output is that of '{name}'": ("list: line N: its output is that of 'NAME'", ("",), OF_OUTPUTS),
+    "list: {unit} {number}: has the output of {unit} {other}": ("list: line N: has the output of line N", ("",), OF_OUTPUTS),
+    "list: {unit} {number}: has the output of '{name}'": ("list: line N: has the output of 'NAME'", ("",), OF_OUTPUTS),
     "cause: {file}": ("cause: 'NAME'", ("",), OF_OUTPUTS),
     "cause: {first} and {file}": ("cause: 'NAME' and 'NAME'", ("",), OF_OUTPUTS),
 }

@@ -413,7 +413,7 @@ is no-ledger-either no test -e files/ledger
 printf 'files/a\0\0files/d/a\0files/e\377\0files/b\nc\0' > list
 told='list: name 2: empty
 list: name 4: not UTF-8: files/e\xff
-list: name 3: its output is that of name 1'
+list: name 3: has the output of name 1'
 keeps --keep-going
 wants keeps-going 1 'sealed files/a file 0 bytes 1
 failed : cannot open
@@ -450,6 +450,29 @@ wants open-keeps-going 1 'opened files/into/a.stm bytes 1
 failed : name does not end in .stm
 failed files/\xff.stm: cannot open' 'list: line 2: empty
 list: line 3: not UTF-8: files/\xff.stm'
+# There - is standard input where it can be, and else it fails alone. On the command line it is a fault of usage.
+printf '%s\n' files/into/a.stm - - > list
+run verify --key "$key" --keep-going --files-from list < files/into/a.stm
+wants verify-keeps-going-without-input 1 'good files/into/a.stm bytes 1
+good - bytes 1
+failed -: cannot open' 'list: line 3: - cannot be standard input'
+run verify --key "$key" --keep-going --files-from list - < files/into/a.stm
+wants verify-keeps-going-after-input 1 'good - bytes 1
+good files/into/a.stm bytes 1
+failed -: cannot open
+failed -: cannot open' 'list: line 2: - cannot be standard input
+list: line 3: - cannot be standard input'
+run verify --key "$key" --keep-going --files-from list - - < files/into/a.stm
+wants verify-input-twice-is-usage 2 '' 'list: line 2: - cannot be standard input
+list: line 3: - cannot be standard input
+usage: standard input can be read only once'
+run open --key "$key" --keep-going --files-from list < files/into/a.stm
+wants open-keeps-going-without-input 1 'failed files/into/a.stm: output exists
+failed -: name does not end in .stm
+failed -: name does not end in .stm' 'list: line 2: - cannot be standard input
+list: line 3: - cannot be standard input'
+run open --key "$key" --quote --files-from list < files/into/a.stm
+wants open-quoted-input-is-usage 2 '' 'usage: - needs --to'
 
 # Which name of a list it is: without --keep-going the first is the cause, by --verbose; with it each is told.
 fresh
@@ -499,9 +522,9 @@ failed \\xff: cannot open
 failed files/..: cannot open
 failed files/y/a: output exists" "list: line 2: empty
 list: line 3: not UTF-8: \\xff
-list: line 1: its output is that of './files/x/a'
+list: line 1: has the output of './files/x/a'
 list: line 4: no last name: files/..
-list: line 5: its output is that of './files/x/a'" --keep-going --into files/into ./files/x/a
+list: line 5: has the output of './files/x/a'" --keep-going --into files/into ./files/x/a
 printf 'files/x/a\n\nfiles/y/a\nfiles//y/a\n../a\n' > list
 mkdir files/tree
 which each-of-a-tree 1 'sealed files/x/a file 6 bytes 1
@@ -509,7 +532,7 @@ failed : cannot open
 sealed files/y/a file 7 bytes 2
 failed files//y/a: output exists
 failed ../a: cannot open' 'list: line 2: empty
-list: line 4: its output is that of line 3' --keep-going --into files/tree --parents
+list: line 4: has the output of line 3' --keep-going --into files/tree --parents
 # So of a hundred thousand names, each twice, in the time of one pass over them.
 python3 -c 'for name in range(50000): print(f"files/none/{name}\nnone/{name}")' > list
 run seal --key "$key" --ledger files/ledger --device 1 --verbose --into files/into --files-from list

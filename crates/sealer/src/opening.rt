@@ -3,11 +3,12 @@ ghost use Rattle.std.specs.Prelude.{◌<◌, ◌≤◌, ◌≡◌, length, map, 
 ghost use Rattle.command_core.specs.Work.{AreWorked, IsOfOpening, IsOfVerifying, Opening, Verifying, output_for};
 ghost use Rattle.sealer.specs.Status.{IsOfCommand, IsOfReading, IsStatusOf, IsStatusOver};
 
-use crate::files::{clear, key_at, names_for, outs_of, progress_of, streams_of};
-use crate::kept::worked_of;
+use crate::files::{clear, key_at, outs_of, progress_of, streams_of};
+use crate::kept::{destination_of, worked_of};
+use crate::telling::reading_names;
 use crate::{OverFiles, Streams, complain};
 use clap::ArgMatches;
-use command_line::{Naming, OpenRequest, Reading, naming_asked, open_request};
+use command_line::{OpenRequest, Reading, UsageFault, naming_asked, open_request};
 use container_core::{Key, MAX_OPENED};
 use sealer_core::{
     Folder, MAX_WORKERS, OpenOptions, OpeningFolder, Outs, Report, open_all, verify_all,
@@ -15,9 +16,7 @@ use sealer_core::{
 use std::io::{Read, Write};
 use std::rt::{Clock, Files};
 use std::thread::Threads;
-use system_files::{
-    Destination, FileOptions, Makes, Names, SystemFiles, can_reopen_input, target_of,
-};
+use system_files::{FileOptions, Makes, Names, SystemFiles, can_reopen_input};
 
 /// Opens or verifies the files of these names, of which `-` is the input. Returns the status, with the streams.
 pub(crate) fn open<
@@ -36,18 +35,39 @@ pub(crate) fn open<
     ensures status { IsStatusOver (IsOfCommand (OverFiles.Read reading) matches.now) matches.now result.0
         (map (λ name. name.now) names.now) (O.contents streams.output.0) (O.contents result.1.output.0) }
 {
-    let request = match open_request(reading, matches, names) {
+    let Some(readers) = reading_names(rt, reading, matches, names) else {
+        return (complain(rt, "usage", UsageFault::OutOfMemory), streams);
+    };
+    let readers = readers.as_slice();
+    open_asked(rt, reading, matches, names, readers, input, streams)
+}
+
+// The same, once it is known for which names it is looked at who reads standard input.
+fn open_asked<
+    R: Files + AllocGlobal + Clock + Eprint + Threads + Sync,
+    I: Read + Drop,
+    O: Write + Drop,
+    E: Write + Drop,
+>(
+    rt: &R,
+    reading: Reading,
+    matches: &ArgMatches<'_>,
+    names: &[&str],
+    readers: &[&str],
+    input: I,
+    streams: Streams<O, E>,
+) -> (u8, Streams<O, E>)
+    ensures status { IsStatusOver (IsOfCommand (OverFiles.Read reading) matches.now) matches.now result.0
+        (map (λ name. name.now) names.now) (O.contents streams.output.0) (O.contents result.1.output.0) }
+{
+    let request = match open_request(reading, matches, readers) {
         Ok(request) => request,
         Err(fault) => return (complain(rt, "usage", fault), streams),
     };
     let mut streams = streams;
     let naming = naming_asked(matches);
-    let to = Destination {
-        makes: Makes::Plaintext,
-        target: target_of(folder_of(reading, request.into), request.parents),
-        names: names_for(naming),
-        may_share: naming == Naming::KeepGoing,
-    };
+    let folder = folder_of(reading, request.into);
+    let to = destination_of(Makes::Plaintext, folder, request.parents, naming);
     let causes = streams.terminals.causes;
     let output = &mut streams.output;
     let files = match worked_of(rt, matches, to, request.skip, names, output, causes) {

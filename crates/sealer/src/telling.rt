@@ -5,11 +5,13 @@ ghost use Rattle.std.specs.Prelude.{◌≡◌, ◌<◌, IfSome};
 use crate::files::NameList;
 use crate::{FAULT, complain};
 use clap::ArgMatches;
-use command_line::{BadPiece, PieceFault, UsageFault, bad_pieces, list_request};
-use path_core::{last_name, place_of, quote, unquote};
+use command_line::{
+    BadPiece, Naming, PieceFault, Reading, UsageFault, bad_pieces, list_request, naming_asked,
+};
+use path_core::{quote, unquote};
 use std::alloc::{AllocError, Global};
 use std::collections::BTreeMap;
-use system_files::{Destination, Names, PlaceFault, Target};
+use system_files::{Destination, Names, PlaceFault, Target, output_key};
 
 /// Where the names of a run come from.
 #[derive(Clone, Copy)]
@@ -104,9 +106,47 @@ fn tell_piece<R: AllocGlobal + Eprint>(rt: &R, unit: &str, piece: &BadPiece<'_>)
     }
 }
 
+/// Returns the names for which a request of `open` or `verify` looks at who reads standard input. These are the names, but
+/// with `--keep-going` one of the list that is `-` and can't be standard input is left empty, and a line is printed for it.
+/// `None` if memory is refused.
+pub(crate) fn reading_names<'n, R: AllocGlobal + Eprint>(
+    rt: &R,
+    reading: Reading,
+    matches: &ArgMatches<'_>,
+    names: &[&'n str],
+) -> Option<Vec<&'n str>> {
+    let origin = origin_of(matches);
+    let keeps_going = naming_asked(matches) == Naming::KeepGoing;
+    let mut is_read = matches!(list_request(matches), Some(list) if list.path == "-");
+    let mut all = Vec::new(rt.alloc());
+    for at in 0..names.len() {
+        let file = name_at(origin, names[at], at + 1);
+        let is_free = file.name != "-" || takes_input(reading, &mut is_read);
+        let name = match file.listed {
+            Some(number) if keeps_going && !is_free => {
+                let unit = origin.unit;
+                let _ = eprintln!(rt; "list: {unit} {number}: - cannot be standard input");
+                ""
+            }
+            _ => file.name,
+        };
+        if all.push(name).is_err() {
+            return None;
+        }
+    }
+    Some(all)
+}
+
+// Whether a FILE `-` can be standard input: for `open` it has no output then, and `verify` reads it once.
+fn takes_input(reading: Reading, is_read: &mut bool) -> bool {
+    let was_read = *is_read;
+    *is_read = true;
+    reading == Reading::Verify && !was_read
+}
+
 // A name of a run.
 #[derive(Clone, Copy)]
-struct Named<'n> {
+struct RunName<'n> {
     name: &'n str,
     // Its number in the list, from 1, if it is of that.
     listed: Option<usize>,
@@ -115,9 +155,9 @@ struct Named<'n> {
 // A FILE that has no output of its own in, or below, the folder of `--into`.
 #[derive(Clone, Copy)]
 struct Clash<'n> {
-    file: Named<'n>,
+    file: RunName<'n>,
     // The FILE whose output it would have. `None` if it has no base name.
-    first: Option<Named<'n>>,
+    first: Option<RunName<'n>>,
 }
 
 /// Prints a line for each name of the list whose FILE has no output of its own in, or below, the folder into which
@@ -148,13 +188,11 @@ fn tell_clash<R: Eprint>(rt: &R, unit: &str, clash: &Clash<'_>) {
         }
         Some(first) => match first.listed {
             Some(other) => {
-                let _ = eprintln!(rt;
-                    "list: {unit} {number}: its output is that of {unit} {other}"
-                );
+                let _ = eprintln!(rt; "list: {unit} {number}: has the output of {unit} {other}");
             }
             None => {
                 let name = first.name;
-                let _ = eprintln!(rt; "list: {unit} {number}: its output is that of '{name}'");
+                let _ = eprintln!(rt; "list: {unit} {number}: has the output of '{name}'");
             }
         },
     }
@@ -194,7 +232,7 @@ fn print_clash<R: AllocGlobal + Eprint>(rt: &R, unit: &str, how: Names, clash: &
 }
 
 // A name as a line shows it, and which of the list it is.
-fn whence(alloc: Global, unit: &str, how: Names, named: Named<'_>) -> Result<String, AllocError> {
+fn whence(alloc: Global, unit: &str, how: Names, named: RunName<'_>) -> Result<String, AllocError> {
     let name = shown(alloc, how, named.name)?;
     match named.listed {
         Some(number) => format!(in alloc; "'{name}' ({unit} {number} of the list)"),
@@ -219,7 +257,7 @@ fn clashes_of<'n>(
     names: &[&'n str],
 ) -> Result<Vec<Clash<'n>>, AllocError> {
     let mut clashes = Vec::new(alloc);
-    let mut seen: BTreeMap<String, Named<'n>> = BTreeMap::new(alloc);
+    let mut seen: BTreeMap<String, RunName<'n>> = BTreeMap::new(alloc);
     for at in 0..names.len() {
         let file = name_at(origin, names[at], at + 1);
         if !to.may_share || is_text(alloc, file.name)? {
@@ -230,13 +268,13 @@ fn clashes_of<'n>(
 }
 
 // The name of this number among all.
-fn name_at<'n>(origin: Origin, name: &'n str, number: usize) -> Named<'n> {
+fn name_at<'n>(origin: Origin, name: &'n str, number: usize) -> RunName<'n> {
     let listed = if number > origin.given {
         Some(number - origin.given)
     } else {
         None
     };
-    Named { name, listed }
+    RunName { name, listed }
 }
 
 // Whether a name is text, as a line shows it, and isn't empty.
@@ -248,29 +286,22 @@ fn is_text(alloc: Global, name: &str) -> Result<bool, AllocError> {
 fn take_in<'n>(
     alloc: Global,
     to: Target<'_>,
-    file: Named<'n>,
-    seen: &mut BTreeMap<String, Named<'n>>,
+    file: RunName<'n>,
+    seen: &mut BTreeMap<String, RunName<'n>>,
     clashes: &mut Vec<Clash<'n>>,
 ) -> Result<(), AllocError> {
-    let end = match to {
-        Target::AsNamed => return Ok(()),
-        Target::Into(_) => match last_name(file.name) {
-            Some(last) => String::from_str(alloc, last)?,
-            None => {
-                return push(clashes, Clash { file, first: None });
-            }
-        },
-        Target::Tree(_) => match place_of(alloc, file.name)? {
-            Some(end) => end,
-            None => return Ok(()),
-        },
+    let Some(key) = output_key(alloc, to, file.name)? else {
+        return match to {
+            Target::Into(_) => push(clashes, Clash { file, first: None }),
+            Target::AsNamed | Target::Tree(_) => Ok(()),
+        };
     };
-    match seen.get(&end) {
+    match seen.get(&key) {
         Some(first) => {
             let first = Some(*first);
             push(clashes, Clash { file, first })
         }
-        None => match seen.insert(end, file) {
+        None => match seen.insert(key, file) {
             Ok(_) => Ok(()),
             Err(_) => Err(AllocError),
         },
