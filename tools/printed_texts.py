@@ -74,6 +74,8 @@ WARNING = r'eprintln!\(rt; "(warning: \{path\} can be read by others)"\)'
 WARNED = ("seal", "pipe", "unpipe", "open", "verify", "ledger")
 # The line about a FILE that changes while it is sealed.
 CHANGED = r'eprintln!\(rt; "(warning: \{name\} changed while it was sealed)"\)'
+# The line about lines of --against that are passed over.
+PASSED_OVER = r'eprintln!\(rt; "(warning: lines of \{path\} passed over: \{others\})"\)'
 # The lines about names that can't be used, as the sources print them: each with its text, and its commands. A fault is PieceFault's.
 OF_LISTS = "seal open verify show audit ledger"
 OF_OUTPUTS = "seal open"
@@ -188,7 +190,10 @@ def texts(name, never):
 def everywhere():
     """The texts that the program prints itself, before it knows its command."""
     printed = re.findall(r'\beprintln!\(\s*\w+;\s*"([^"]*)"', SOURCES)
-    warnings = {only(WARNING, "the warning about a key file"), only(CHANGED, "the warning about a FILE")}
+    warnings = {
+        only(WARNING, "the warning about a key file"), only(CHANGED, "the warning about a FILE"),
+        only(PASSED_OVER, "the warning about lines"),
+    }
     apart = {"{subject}: {fault}", "cause: {cause}", OF_A_FILE, *OF_NAMES, *warnings}
     if not apart <= set(printed):
         raise SystemExit("where are faults and causes printed?")
@@ -203,6 +208,8 @@ def faults(command):
         errors.add(only(WARNING, "the warning about a key file").replace("{path}", "F"))
     if command == "seal":
         errors.add(only(CHANGED, "the warning about a FILE").replace("{name}", "FILE"))
+    if command == "verify":
+        errors.add(only(PASSED_OVER, "the warning about lines").replace("{path}", "F").replace("{others}", "N"))
     for text, variants_of_it, commands in OF_NAMES.values():
         if command in commands.split():
             errors.update(text.replace("{fault}", texts_by_variant("PieceFault").get(it, "")) for it in variants_of_it)

@@ -3957,6 +3957,11 @@ good year/in/a\nb.stm bytes 6' ''
 against --into year/in/ --quote year/in/*.stm
 wants against-into-with-a-slash 0 'good year/in/5.stm bytes 10
 good year/in/a\nb.stm bytes 6' ''
+# Lines that seal doesn't print of a FILE are passed over, and counted: JSON, with a carriage return, or no text.
+{ printf '{"status":"sealed"}\n\n\377\nkept a\nfailed a: cannot open\n'; sed 's/$/\r/' year/lines; cat year/lines; } > year/others
+run verify --key "$key" --against year/others --into year/in --quote year/in/*.stm
+wants against-others 0 'good year/in/5.stm bytes 10
+good year/in/a\nb.stm bytes 6' 'warning: lines of year/others passed over: 4'
 against --quote year/in/*.stm
 wants against-not-into 1 'good year/in/5.stm bytes 10
 good year/in/a\nb.stm bytes 6

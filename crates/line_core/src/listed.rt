@@ -1,5 +1,6 @@
 //! The outputs that the lines of `seal` name, and how verified containers differ from them. A name is the same only if its
 //! text is. Lines of other kinds, and bytes that are no line, are passed over. Of two lines of one output the last counts.
+//! How many were passed over that `seal` doesn't print of a FILE is known: a list with other ends of lines has these alone.
 ghost use Rattle.std.specs.Prelude.{if◌then◌else◌, ◌<◌, ◌≡◌, ◌∷◌, ◌++◌, [], ℕ, IfNone, IfOk, IfSome, List, OnErr, OnOk, length, map, string_bytes};
 ghost use Rattle.line_core.specs.Listed.{finding_front, finding_line, finding_numbers, finding_object, finding_status};
 ghost use Rattle.line_core.specs.Listed.{found_of, judged, line_words, listed_at, listings, missing_of, outputs_of, said, value_member, with_met};
@@ -49,6 +50,8 @@ pub struct Listed {
     alloc: Global,
     outputs: BTreeMap<String, Output>,
     found: Vec<Finding>,
+    // How many lines are of no FILE that was sealed, kept or failed.
+    others: u64,
 }
 
 impl Listed {
@@ -59,23 +62,18 @@ impl Listed {
         text: &[u8],
         into: Option<&str>,
         parents: bool,
-    ) -> Result<Listed, AllocError> {
+    ) -> Result<Listed, AllocError>
+        ensures found { IfOk result (λ listed. found_of listed ≡ []) }
+    {
         let mut outputs = BTreeMap::new(alloc);
+        let mut others = 0u64;
         let mut rest = text;
         'lines: while !rest.is_empty() {
             let (line, more) = cut_line(rest);
-            if let Some((name, number, bytes)) = sealed_in(line) {
-                if let Some(output) = output_of(alloc, into, parents, name)? {
-                    let entry = Output {
-                        number,
-                        bytes,
-                        is_met: false,
-                    };
-                    match outputs.insert(output, entry) {
-                        Ok(_) => {}
-                        Err(_) => return Err(AllocError),
-                    }
-                }
+            match sealed_in(line) {
+                Some(sealed) => take_in(alloc, into, parents, sealed, &mut outputs)?,
+                None if is_other(line) => others = others.saturating_add(1),
+                None => {}
             }
             rest = more;
         }
@@ -83,7 +81,13 @@ impl Listed {
             alloc,
             outputs,
             found: Vec::new(alloc),
+            others,
         })
+    }
+
+    /// Returns how many of the lines are of no FILE that was sealed, kept or failed. Empty ones don't count.
+    pub fn others(&self) -> u64 {
+        self.others
     }
 
     /// Takes a container of this name as met, and notes what is found of it. `good` is the number of a good one, and how
@@ -119,6 +123,7 @@ impl Listed {
             alloc: _,
             outputs,
             found,
+            others: _,
         } = self;
         let mut found = found;
         'outputs: for (name, output) in outputs {
@@ -132,6 +137,29 @@ impl Listed {
             }
         }
         Ok(found)
+    }
+}
+
+// Lists the output of a line with this name, number and bytes, if it has a place.
+fn take_in(
+    alloc: Global,
+    into: Option<&str>,
+    parents: bool,
+    sealed: (&str, u32, u64),
+    outputs: &mut BTreeMap<String, Output>,
+) -> Result<(), AllocError> {
+    let (name, number, bytes) = sealed;
+    let Some(output) = output_of(alloc, into, parents, name)? else {
+        return Ok(());
+    };
+    let entry = Output {
+        number,
+        bytes,
+        is_met: false,
+    };
+    match outputs.insert(output, entry) {
+        Ok(_) => Ok(()),
+        Err(_) => Err(AllocError),
     }
 }
 
@@ -192,6 +220,20 @@ fn sealed_in(line: &[u8]) -> Option<(&str, u32, u64)> {
             _ => None,
         },
         _ => None,
+    }
+}
+
+// Whether a line is of no FILE that was kept or failed. An empty one counts as none.
+fn is_other(line: &[u8]) -> bool {
+    if line.is_empty() {
+        return false;
+    }
+    match from_utf8(line) {
+        Ok(text) => !matches!(
+            message_of(text),
+            Some(Message::Kept { .. } | Message::Failed { .. })
+        ),
+        Err(_) => true,
     }
 }
 

@@ -113,8 +113,8 @@ impl<'a> Asked<'a> {
         matches!(self.command, Command::Pipe | Command::Unpipe)
     }
 
-    /// Reads the lines with which verified containers are compared, if they are. A fault is printed, with `causes` its
-    /// cause too, and the error is its status.
+    /// Reads the lines with which verified containers are compared, if they are. How many of them `seal` doesn't print of a
+    /// FILE is printed, if some are. A fault is printed, with `causes` its cause too, and the error is its status.
     pub(crate) fn listed<R: Files + AllocGlobal + Eprint>(
         &self,
         rt: &R,
@@ -124,7 +124,13 @@ impl<'a> Asked<'a> {
             return Ok(None);
         };
         match self.listed_at(rt, path) {
-            Ok(listed) => Ok(Some(listed)),
+            Ok(listed) => {
+                let others = listed.others();
+                if others > 0 {
+                    let _ = eprintln!(rt; "warning: lines of {path} passed over: {others}");
+                }
+                Ok(Some(listed))
+            }
             Err(fault) => Err(explain(rt, "against", fault, causes, About::Input(path))),
         }
     }
