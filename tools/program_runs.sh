@@ -3774,6 +3774,9 @@ sealed --ledger json/one --into json/texts --quote
 cp out text
 run seal --key "$key" --device 1 --ledger json/two --into json/objects --quote --json -- "${odd[@]}" 'json/no: ne'
 alike json-quote 1 out sealed kept failed bytes
+run seal --key "$key" --device 1 --ledger json/two --into json/objects// --skip-existing --json -- json/plain
+wants json-into-with-slashes 0 '{"status":"kept","file":"json/plain","output":"json/objects/plain.stm"}
+{"status":"total","sealed":0,"kept":1,"failed":0,"bytes":0}' ''
 run seal --key "$key" --device 1 --ledger json/two --into json/objects --quiet -- json/plain json/none
 wants quiet-failed 1 'failed json/plain: output exists
 failed json/none: cannot open

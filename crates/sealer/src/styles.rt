@@ -103,7 +103,7 @@ impl<'a> Asked<'a> {
             device: self.device.as_ref().map(|digits| digits.as_str()),
             makes: makes_of(self.command),
             names: self.names,
-            target: target_of(printing.into, printing.parents),
+            target: target_of(printing.into.map(shown_folder), printing.parents),
             to: printing.to,
         }
     }
@@ -164,6 +164,14 @@ impl<'a> Asked<'a> {
         let mut copy = String::new(alloc);
         copy.push_str(folder)?;
         Ok(Some(copy))
+    }
+}
+
+// A folder's path as outputs below it show it: they have a slash of their own after it.
+fn shown_folder(folder: &str) -> &str {
+    match folder.trim_end_matches('/') {
+        "" => folder,
+        short => short,
     }
 }
 

@@ -156,7 +156,7 @@ impl<'a, W: Write + Drop> Lines<'a, W> {
         }
         let mut line = Vec::new(self.alloc);
         if self.style.is_json {
-            let output = self.output_of(message);
+            let output = self.output_of(message)?;
             let extras = Extras {
                 device: self.style.device,
                 output: output.as_ref().map(|path| path.as_str()),
@@ -177,27 +177,40 @@ impl<'a, W: Write + Drop> Lines<'a, W> {
         Ok(Some(line))
     }
 
-    // The path of the output of a line, if the line has one and it is known.
-    fn output_of(&self, message: &Message<'_>) -> Option<String> {
+    // The path of the output of a line, if the line has one.
+    fn output_of(&self, message: &Message<'_>) -> Result<Option<String>, AllocError> {
         let name = match *message {
             Message::Sealed { name, .. } | Message::Kept { name } | Message::Opened { name, .. } =>
                 { name }
-            _ => return None,
+            _ => return Ok(None),
         };
         if let Some(to) = self.style.to {
-            return path_of(self.alloc, Names::Plain, Target::AsNamed, to);
+            return self.made_at(Names::Plain, Target::AsNamed, to);
         }
         let (names, target) = (self.style.names, self.style.target);
         match self.style.makes {
-            Some(Makes::Container) => match format!(in self.alloc; "{name}.stm") {
-                Ok(output) => path_of(self.alloc, names, target, output.as_str()),
-                Err(_) => None,
-            },
+            Some(Makes::Container) => {
+                let output = format!(in self.alloc; "{name}.stm")?;
+                self.made_at(names, target, output.as_str())
+            }
             Some(Makes::Plaintext) => match name.strip_suffix(".stm") {
-                Some(output) => path_of(self.alloc, names, target, output),
-                None => None,
+                Some(output) => self.made_at(names, target, output),
+                None => Ok(None),
             },
-            None => None,
+            None => Ok(None),
+        }
+    }
+
+    // The path of an output that was made. It has one, so if there is none memory is refused.
+    fn made_at(
+        &self,
+        names: Names,
+        target: Target<'_>,
+        name: &str,
+    ) -> Result<Option<String>, AllocError> {
+        match path_of(self.alloc, names, target, name) {
+            Some(path) => Ok(Some(path)),
+            None => Err(AllocError),
         }
     }
 }
