@@ -67,7 +67,7 @@ NEVER = (
     ("unpipe verify", "Cause", OF_OUTPUT, "there is no output with a name"),
     ("open verify", "Cause", "OwnFile", "a FILE can be any file"),
     ("verify", "Cause", "TooLarge", "nothing is written to a file"),
-    ("unpipe", "Cause", "NoText Input", "its name is a path, and standard input is opened once"),
+    ("unpipe", "Cause", "NoText", "its name is a path"),
 )
 # The line about a key file that others can read, and its commands.
 WARNING = r'eprintln!\(rt; "(warning: \{path\} can be read by others)"\)'

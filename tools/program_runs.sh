@@ -3488,6 +3488,8 @@ file=/proc/self/mem file_caused sealed-read-failed 'read failed' 'the system rep
 file=/proc/self/mem file_caused lanes-read-failed 'read failed' 'the system reports an error' seal --ledger files/f --device 1 --into files --lanes 2
 file=files/key file_caused own-key 'cannot open' "it is one of the run's own files" seal --ledger files/f --device 1
 file=files/f-wal file_caused own-log 'cannot open' "it is one of the run's own files" seal --ledger files/f --device 1
+run verify --verbose --key files/key - <&-
+wants 'file-cause: closed' 1 'failed -: read failed' 'cause: -: standard input cannot be read'
 # A name is shown as in the line.
 file='files/no\nne' && run verify --verbose --key files/key --keep-going "$(printf 'files/no\nne')"
 wants 'file-cause: quoted' 1 "failed $file: cannot open" "cause: $file: there is no such file"

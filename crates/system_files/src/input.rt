@@ -115,9 +115,18 @@ impl<R: Clock + Eprint, I: Read + Drop> Read for Explained<'_, '_, R, I> {
         if let (Some(named), Err(error)) = (&self.named, &got)
             && error.kind() != ErrorKind::Interrupted
         {
-            named.explain(Cause::of(error));
+            named.explain(why_unread(error));
         }
         got
+    }
+}
+
+// Why a read failed. Files that are folders are refused before, so one that is read is standard input: in place of a
+// closed one a folder is opened.
+fn why_unread(error: &io::Error) -> Cause {
+    match Cause::of(error) {
+        Cause::IsFolder => Cause::Input,
+        cause => cause,
     }
 }
 
