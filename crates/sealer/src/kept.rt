@@ -35,7 +35,7 @@ pub(crate) fn destination_of<'a>(
         makes,
         target: target_of(folder, parents),
         names: names_for(naming),
-        may_share: naming == Naming::KeepGoing,
+        may_share: matches!(naming, Naming::KeepGoing),
     }
 }
 

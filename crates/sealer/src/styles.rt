@@ -103,7 +103,10 @@ impl<'a> Asked<'a> {
             device: self.device.as_ref().map(|digits| digits.as_str()),
             makes: makes_of(self.command),
             names: self.names,
-            target: target_of(printing.into.map(shown_folder), printing.parents),
+            target: target_of(
+                printing.into.map(|folder| shown_folder(folder)),
+                printing.parents,
+            ),
             to: printing.to,
         }
     }
