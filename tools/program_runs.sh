@@ -1629,6 +1629,8 @@ if has sqlite3; then
         sqlite3 one 'CREATE TABLE t (x); INSERT INTO t VALUES (1)'
         sqlite3 view 'CREATE VIEW v AS SELECT 1'
         sqlite3 four 'CREATE TABLE mark (a PRIMARY KEY, b UNIQUE); CREATE TABLE takes (a)'
+        # four entries, and the words of a ledger's in another entry's text
+        sqlite3 words "CREATE TABLE one (a PRIMARY KEY DEFAULT 'tablemarkmark'); CREATE TABLE two (a PRIMARY KEY DEFAULT 'tabletakentaken')"
         sqlite3 wide 'PRAGMA page_size = 65536; CREATE TABLE t (x)'
         sqlite3 small 'PRAGMA page_size = 512; CREATE TABLE t (x); CREATE TABLE u (x UNIQUE); CREATE TABLE v (y)'
         sqlite3 many "$(for n in $(seq 1 300); do echo "CREATE TABLE some_table_$n (some_column, another_column);"; done)"
@@ -1642,7 +1644,7 @@ if has sqlite3; then
     is the-log-has-pages test "$(wc -c < life/foreign/pages-wal)" -gt 4096
     as_it_was() { (cd life/foreign && ls -l --time-style=full-iso && sha256sum -- *); }
     as_it_was > before
-    for name in one view four wide small many pages begun long text; do
+    for name in one view four words wide small many pages begun long text; do
         text='ledger: not a ledger'
         [ $name = text ] && text='ledger: cannot open'
         run seal --key "$key" --ledger life/foreign/$name --device 1 life/waits

@@ -1,4 +1,5 @@
 //! Refuses a database that is no ledger, before anything is made beside it and before anything is written to it.
+ghost use Rattle.std.specs.Prelude.{◌≡◌, ◌+◌, ◌*◌, ◌≤◌, length, slice_index};
 
 use crate::begun::WITHOUT_PAGE;
 use crate::holdings::{is_alone, read_both};
@@ -24,14 +25,30 @@ const KIND: usize = 100;
 
 const ENTRIES: usize = 103;
 
+// Where the pointers to the entries begin, of two bytes each.
+const POINTERS: usize = 108;
+
 const LEAF: u8 = 0x0d;
 
 const INNER: u8 = 0x05;
 
+// The four entries of a ledger as a run makes it. Each has its length, its number, the forms of its columns, and these:
+// kind, name, table, first page and, of a table, its statement.
+static MARK: &[u8] =
+    b"\x81\x35\x01\x07\x17\x15\x15\x01\x82\x4dtablemarkmark\x02CREATE TABLE mark (key_id BLOB NOT NULL, device INTEGER NOT NULL, next INTEGER NOT NULL, PRIMARY KEY (key_id, device), CHECK (next >= 0 AND next <= 4294967296))";
+
+static KEY_OF_MARK: &[u8] = b"\x27\x02\x06\x17\x3b\x15\x01\x00indexsqlite_autoindex_mark_1mark\x03";
+
+static TAKEN: &[u8] =
+    b"\x81\x62\x03\x07\x17\x17\x17\x01\x83\x23tabletakentaken\x04CREATE TABLE taken (key_id BLOB NOT NULL, device INTEGER NOT NULL, lo INTEGER NOT NULL, size INTEGER NOT NULL, PRIMARY KEY (key_id, device, lo), CHECK (lo >= 0 AND size >= 1 AND lo + size <= 4294967296))";
+
+static KEY_OF_TAKEN: &[u8] =
+    b"\x29\x04\x06\x17\x3d\x17\x01\x00indexsqlite_autoindex_taken_1taken\x05";
+
 // What the first page says of the tables, if no log has another first page.
 #[derive(Clone, Copy, PartialEq, Eq)]
 enum Front {
-    // They are a ledger's two, with their keys.
+    // They are a ledger's two, with their keys, as a run makes them.
     Ledger,
     // There are others.
     Other,
@@ -81,11 +98,15 @@ fn front_in(front: &[u8]) -> Front {
     if front.len() < ENTRIES + 2 || !front.starts_with(b"SQLite format 3\0") {
         return Front::Unclear;
     }
-    let page = front[16] as usize * 0x100 + front[17] as usize;
-    let entries = front[ENTRIES] as usize * 0x100 + front[ENTRIES + 1] as usize;
+    let page = number_at(front, 16);
+    let entries = number_at(front, ENTRIES);
     let kind = front[KIND];
     if kind == LEAF && entries == 4 && has_both(front) {
-        Front::Ledger
+        if are_ledgers(front) {
+            Front::Ledger
+        } else {
+            Front::Unclear
+        }
     } else if kind == LEAF && entries > 0 || kind == INNER && (page == 1 || page >= ROOMY) {
         Front::Other
     } else {
@@ -93,9 +114,39 @@ fn front_in(front: &[u8]) -> Front {
     }
 }
 
-// Whether there are entries of the two tables. An entry has the kind, the name and the table's name, one after another.
+// The two bytes at an offset as a big-endian number.
+fn number_at(front: &[u8], at: usize) -> usize
+    requires { at + 2 ≤ length front.now }
+    ensures { result ≡ slice_index front.now at * 0x100 + slice_index front.now (1 + at) }
+{
+    front[at] as usize * 0x100 + front[at + 1] as usize
+}
+
+// Whether the words of entries of the two tables are there, in whatever place.
 fn has_both(front: &[u8]) -> bool {
     has(front, b"tablemarkmark") && has(front, b"tabletakentaken")
+}
+
+// Whether the first four entries are a ledger's.
+fn are_ledgers(front: &[u8]) -> bool {
+    is_entry(front, 0, MARK)
+        && is_entry(front, 1, KEY_OF_MARK)
+        && is_entry(front, 2, TAKEN)
+        && is_entry(front, 3, KEY_OF_TAKEN)
+}
+
+// Whether the nth entry has these bytes.
+fn is_entry(front: &[u8], nth: usize, bytes: &[u8]) -> bool
+    requires { nth ≤ 3 }
+{
+    let pointer = POINTERS + 2 * nth;
+    if front.len() < pointer + 2 {
+        return false;
+    }
+    match front.get(number_at(front, pointer)..) {
+        Some(entry) => entry.starts_with(bytes),
+        None => false,
+    }
 }
 
 fn has(bytes: &[u8], word: &[u8]) -> bool {
