@@ -26,7 +26,7 @@ OF_A_FILE = "cause: {name}: {cause}"
 # The causes that only a ledger file has, those that only a journal has, and those that only a FILE has, or its output or spool.
 OF_LEDGER = "NoPath LostLedger EmptyLedger AnotherLog UnusableLog HardLink LeftJournal CannotMake Empty NoDatabase NoTables SomethingElse Damaged Held"
 OF_JOURNAL = "Exists OfLedger"
-OF_WITNESS = "AnotherFile NoLine NoWitness NoPlace"
+OF_WITNESS = "AnotherFile NoLine NoWitness NoRoom"
 OF_OUTPUT = "NoOutputName LinkOnWay OutputThere OutputShared OutputTaken PartGone"
 OF_FILE = f"{OF_OUTPUT} OwnFile NoText TooLarge"
 # The faults that can't come at these commands, and why.
@@ -62,7 +62,7 @@ NEVER = (
     ("ledger", "Cause", f"CannotMake {OF_JOURNAL} {OF_WITNESS}", "there is no journal and no witness"),
     ("show audit", "Cause", f"NoDigits {OF_LEDGER} {OF_JOURNAL} {OF_WITNESS}", "there is no key, no ledger, and no journal file"),
     ("pipe", "Cause", "Input", "there is no list"),
-    ("pipe", "Cause", OF_FILE, "there is no FILE with a cause"),
+    ("pipe", "Cause", f"{OF_OUTPUT} OwnFile NoText", "there is no FILE with a cause"),
     ("ledger show audit", "Cause", f"{OF_OUTPUT} OwnFile TooLarge", "a FILE is only read, and can be any file"),
     ("unpipe verify", "Cause", OF_OUTPUT, "there is no output with a name"),
     ("open verify", "Cause", "OwnFile", "a FILE can be any file"),

@@ -1356,7 +1356,25 @@ journal: write failed'
     run seal --key "$key" --ledger small/ledger --device 1 life/small.empty
     wants full-disk-ledger 2 '' 'ledger: cannot open'
     is full-disk-seals-nothing no test -e life/small.empty.stm
-    rm small/fill small/x
+    # a first run that runs out of room at any step: its cause is no damage, and it goes on once there is room
+    mkdir small/first
+    for pages in $(seq 0 16); do
+        rm -rf small/first/* small/room
+        head -c $((4096 * pages)) /dev/zero > small/room 2> /dev/null
+        cat /dev/zero >> small/fill 2> /dev/null
+        rm small/room
+        run seal --key "$key" --ledger small/first/ledger --device 1 --verbose life/small.empty
+        if [ "$status" = 2 ]; then
+            is "full-disk-cause of $pages pages: $(cat err)" test "$(grep -c -e '^cause: the system reports an error$' -e '^cause: it cannot be made: ' err)" = 1
+            rm small/fill
+            run seal --key "$key" --ledger small/first/ledger --device 1 life/small.empty
+        fi
+        # a number whose range could only be committed is given up
+        sed -i 's/ file 1 / file 0 /' out
+        wants "full-disk-goes-on $pages" 0 'sealed life/small.empty file 0 bytes 0' ''
+        rm life/small.empty.stm
+    done
+    rm -rf small/fill small/x small/first
     run seal --key "$key" --ledger small/ledger --device 1 life/small.empty
     wants room-again 0 'sealed life/small.empty file 0 bytes 0' ''
     # A reservation that finds no room uses no number, and the next one goes on after the first.
@@ -1610,9 +1628,14 @@ run seal --key "$key" --ledger life/links/lost --device 1 life/first
 wants log-of-a-lost-ledger-by-a-link 2 '' 'ledger: cannot open'
 is no-lost-ledger-was-made-by-a-link no test -e life/lost
 
-(trap '' XFSZ; ulimit -f 8; exec "$sealer" seal --key "$key" --ledger life/ledger --device 5 life/waits) > out 2> err
+(trap '' XFSZ; ulimit -f 8; exec "$sealer" seal --key "$key" --ledger life/ledger --device 5 --verbose life/waits) > out 2> err
 status=$?
-wants ledger-store-fails 2 '' 'ledger: store failed'
+wants ledger-store-fails 2 '' 'ledger: store failed
+cause: the system reports an error'
+(trap '' XFSZ; ulimit -f 8; exec "$sealer" pipe --key "$key" --ledger life/ledger --device 5 --verbose < life/waits) > out 2> err
+status=$?
+wants ledger-store-fails-for-a-stream 2 '' 'ledger: store failed
+cause: the system reports an error'
 is nothing-was-sealed-without-a-range no test -e life/waits.stm
 if has sqlite3; then
     sqlite3 life/bare 'CREATE TABLE one (a INTEGER); DROP TABLE one'
@@ -3266,8 +3289,29 @@ wants no-witness-empty 2 '' 'witness: not a witness'
 head -c -1 files/good > files/real
 moved files/f8
 wants no-witness-cut 2 '' 'witness: not a witness'
-for n in $(seq 10000); do sed "s/ device 20000 / device $((30000 + n)) /" files/line; done > files/real
-is no-witness-long-is-long test "$(stat -c %s files/real)" -gt 1048576
+# as many lines as there may be: one more is refused before a range is reserved, and what is renewed can be read again
+many_lines() { seq -f "$(sed 's/ device 20000 .*//' files/line) device %.0f $(sed 's/.* device 20000 //' files/line)" 30001 $((30000 + $1)); }
+cp files/moved/ledger files/true/before-many
+many_lines 92691 > files/real
+(umask 077; cp "$key" files/key)
+run seal --key files/key --ledger files/moved/ledger --device 1 --witness files/w --new-witness --verbose files/f8
+wants witness-full 2 '' 'witness: too many lines
+cause: no further line has room in 16 MiB'
+is witness-full-reserves-nothing cmp -s files/moved/ledger files/true/before-many
+{ printf '%s\n' "$first"; many_lines 92690; } > files/real
+moved files/f8
+goes witness-almost-full
+moved --skip-existing files/f8 files/f9
+goes witness-almost-full-goes-on
+is witness-almost-full-has-all test "$(wc -l < files/real)" = 92691
+rm files/f8.stm files/f9.stm
+first=$(head -n 1 files/real)
+printf '%s\n' "$first" > files/good
+many_lines 92692 > files/real
+moved --new-witness files/f8
+wants witness-too-full 2 '' 'witness: too many lines'
+many_lines 140000 > files/real
+is no-witness-long-is-long test "$(stat -c %s files/real)" -gt 16777216
 moved --new-witness files/f8
 wants no-witness-long 2 '' 'witness: not a witness'
 run seal --key "$key" --ledger files/moved/ledger --device 1 --witness files files/f8
@@ -3276,9 +3320,12 @@ run seal --key "$key" --ledger files/moved/ledger --device 1 --witness "$key" fi
 wants no-witness-key 2 '' 'witness: not a witness'
 cp files/good files/real
 # a witness can't be the ledger's
-for name in ledger-journal ledger-shm; do
-    run seal --key "$key" --ledger files/moved/ledger --device 1 --witness "$PWD/files/moved/$name" --new-witness files/f8
-    wants "witness-in-place-of $name" 2 '' 'witness: cannot create'
+for name in ledger ledger-wal ledger-journal ledger-shm; do
+    for more in '' --new-witness; do
+        run seal --key files/key --ledger files/moved/ledger --device 1 --verbose --witness "$PWD/files/moved/$name" $more files/f8
+        wants "witness-in-place-of $name $more" 2 '' 'witness: cannot create
+cause: it is the ledger, or a file beside it'
+    done
 done
 run seal --key "$key" --ledger files/moved/ledger --device 1 --witness none/w --new-witness files/f8
 wants witness-no-folder 2 '' 'witness: cannot create'
@@ -3288,7 +3335,9 @@ because() { # NAME CAUSE ARGS..
     run seal --key "$key" --verbose --ledger "${@:3}" files/f8
     is "witness-cause-$1" test "$status $(tail -n 1 err)" = "2 cause: $2"
 }
-because folder 'no file can be made in its folder' files/moved/ledger --device 1 --witness none/w --new-witness
+because folder 'the folder is missing' files/moved/ledger --device 1 --witness none/w --new-witness
+because no-witness-but-a-folder 'it is a folder' files/moved/ledger --device 1 --witness files
+because in-no-folder 'a part of the path is no folder' files/moved/ledger --device 1 --witness files/f1/w --new-witness
 because none 'there is no such file' files/moved/ledger --device 1 --witness files/none
 because another 'it is gone or empty, or was copied, restored, moved or made anew' files/on/ledger --device 1 --witness files/w
 because line 'the witness saw no run of this key and device' files/moved/ledger --device 3 --witness files/w
@@ -3306,22 +3355,67 @@ is witness-ledger-emptied-stays test "$(ls files/moved) $(stat -c %s files/moved
 cat files/true/whole > files/moved/ledger
 cat files/true/log > files/moved/ledger-wal
 # nothing is sealed that the witness didn't record, its numbers are given up, and nothing of that name is replaced
-echo mine > files/real.8.new
-moved files/f8
-wants witness-name-taken 2 '' 'witness: write failed'
-is witness-name-taken-as-it-was test "$(cat files/real.8.new) $(cmp files/real files/good && echo same)" = 'mine same'
-rm files/real.8.new
 if command -v strace > /dev/null; then
-    strace -f -qq -o /dev/null -e trace=rename -e inject=rename:error=EIO "$sealer" seal --key "$key" --ledger files/moved/ledger --device 1 \
-        --witness files/w files/f8 > out 2> err
-    status=$?
-    wants witness-not-renewed 2 '' 'witness: write failed'
-    is witness-not-renewed-as-it-was cmp -s files/real files/good
+    # failing CALL ERROR CAUSE: a run whose calls of this kind fail
+    failing() {
+        strace -f -qq -o /dev/null -e "trace=$1" -e "inject=$1:error=$2" "$sealer" seal --key files/key --ledger files/moved/ledger --device 1 \
+            --verbose --witness files/w files/f8 > out 2> err
+        status=$?
+        wants "witness-not-renewed: $1 $2" 2 '' "witness: write failed
+cause: $3"
+        is "witness-not-renewed-as-it-was: $1 $2" cmp -s files/real files/good
+    }
+    failing rename EIO 'the system reports an error'
+    failing rename ENOSPC 'the disk is full, or a quota is reached'
+    failing rename EROFS 'the file system is read-only'
     strace -f -qq -o /dev/null -e trace=rename -e inject=rename:error=EIO "$sealer" pipe --key "$key" --ledger files/moved/ledger --device 1 \
         --witness files/w < files/f8 > out 2> err
     status=$?
     wants witness-not-renewed-by-a-stream 2 '' 'witness: write failed'
     is witness-not-renewed-by-a-stream-as-it-was cmp -s files/real files/good
+    # the ledger is exchanged after the run looked at it, while the folder of the witness is tested
+    cp files/moved/ledger-wal files/true/log
+    strace -f -qq -o /dev/null -e trace=unlink -e inject=unlink:delay_enter=3000000:when=1 "$sealer" seal --key files/key --ledger files/moved/ledger \
+        --device 1 --verbose --witness files/w files/f8 > out 2> err &
+    one=$!
+    for _ in $(seq 100); do ls files/real.*.try > /dev/null 2>&1 && break; sleep 0.05; done
+    mv files/moved/ledger files/true/aside
+    cp files/true/aside files/moved/ledger
+    wait "$one"; status=$?
+    wants witness-of-an-exchanged-ledger 2 '' 'witness: write failed
+cause: it is gone or empty, or was copied, restored, moved or made anew'
+    is witness-of-an-exchanged-ledger-as-it-was cmp -s files/real files/good
+    mv files/true/aside files/moved/ledger
+    cat files/true/log > files/moved/ledger-wal
+    # a run that is killed as it renews the witness leaves a file, which is in nobody's way
+    mkdir files/pair
+    pair() { run seal --key "$key" --ledger files/pair/ledger --device "$1" --witness files/pair/w "${@:2}"; }
+    for device in 1 2; do
+        pair $device --new-witness files/f8
+        goes "witness-of-a-pair $device"
+        rm files/f8.stm
+    done
+    {
+        strace -f -qq -o /dev/null -e trace=rename -e inject=rename:signal=KILL "$sealer" seal --key "$key" --ledger files/pair/ledger --device 1 \
+            --witness files/pair/w files/f8 > out 2> err
+    } 2> /dev/null
+    is witness-left test "$(find files/pair -name 'w.*.new' | wc -l) $(ls files/f8.stm 2> /dev/null)" = '1 '
+    # both would renew it for the number 2
+    pair 2 files/f8
+    wants witness-after-a-kill 0 'sealed files/f8 file 1 bytes 2' ''
+    rm files/f8.stm
+    pair 1 files/f8
+    wants witness-after-its-own-kill 0 'sealed files/f8 file 2 bytes 2' ''
+    rm files/f8.stm
+    is witness-left-alone test "$(find files/pair -name 'w.*.new' | wc -l)" = 1
+fi
+if [ "$(id -u)" = 0 ]; then
+    chown 65534:65534 files/real
+    moved files/f8
+    goes witness-of-another-user
+    is witness-keeps-its-owner test "$(stat -c '%u:%g %a' files/real)" = '65534:65534 600'
+    rm files/f8.stm
+    cp files/real files/good
 fi
 is witness-not-renewed-no-file test "$(ls files/f8.stm files/real.* 2> /dev/null)" = ''
 moved files/f8

@@ -2,9 +2,10 @@
 ghost use Rattle.std.specs.Prelude.{◌≡◌, IfErr, IfSome, None, Some, option_map, string_bytes};
 
 use crate::files::key_at;
-use crate::{FAULT, explain};
+use crate::{FAULT, explain, tell_cause};
 use container_core::Key;
 use ledger_core::{Device, ToWrite};
+use std::io::Error;
 use std::rt::{Clock, Files};
 use system_files::{About, Cause, JournalPlace, Step, new_journal};
 use system_ledger::{
@@ -94,18 +95,18 @@ pub(crate) enum Refusal {
 }
 
 /// Checks whether the ledger file may be opened, then reads the witness that is asked for.
-pub(crate) fn look<'r, R: Files + AllocGlobal>(
-    rt: &'r R,
+pub(crate) fn look<'r>(
+    host: &'r HostRuntime,
     ledger: &LedgerPath<'r>,
     asked: WitnessPath<'_>,
     key: &Key,
     device: Device,
-) -> Result<FileWitness<'r, R>, Refusal> {
-    match may_open(rt, ledger) {
+) -> Result<FileWitness<'r>, Refusal> {
+    match may_open(host, ledger) {
         Ok(()) => {}
         Err(fault) => return Err(Refusal::Ledger(fault, Step::Check)),
     }
-    match FileWitness::open(rt, asked, ledger.path, &key.id(), device) {
+    match FileWitness::open(host, asked, ledger.path, &key.id(), device) {
         Ok(witness) => Ok(witness),
         Err(WitnessRefusal::Ledger(fault)) => Err(Refusal::Ledger(fault, Step::Check)),
         Err(WitnessRefusal::Witness(fault)) => Err(Refusal::Witness(fault)),
@@ -140,15 +141,52 @@ pub(crate) fn refuse<R: Files + AllocGlobal + Eprint>(
             explain(rt, "ledger", fault, causes, about)
         }
         Refusal::Witness(fault) => {
-            let about = match fault {
-                WitnessFault::NotWitness => About::Known(Cause::NoWitness),
-                WitnessFault::NoLine => About::Known(Cause::NoLine),
-                WitnessFault::OutOfMemory => About::Known(Cause::OutOfMemory),
-                WitnessFault::CannotCreate => About::Known(Cause::NoPlace),
-                _ => About::Input(witness.unwrap_or("")),
-            };
+            let about = about_witness(fault, witness.unwrap_or(""));
             explain(rt, "witness", fault, causes, about)
         }
+    }
+}
+
+// What a fault of the witness at this path is about.
+fn about_witness(fault: WitnessFault, path: &str) -> About<'_>
+    ensures line { fault ≡ WitnessFault.NoLine → result ≡ About.Known Cause.NoLine }
+    ensures room { fault ≡ WitnessFault.Full → result ≡ About.Known Cause.NoRoom }
+    ensures ledger { fault ≡ WitnessFault.OfLedger → result ≡ About.Known Cause.OfLedger }
+    ensures memory { fault ≡ WitnessFault.OutOfMemory → result ≡ About.Known Cause.OutOfMemory }
+{
+    match fault {
+        WitnessFault::NotThere => About::Input(path),
+        WitnessFault::CannotOpen(kind) => About::Known(Cause::of(&Error::from(kind))),
+        WitnessFault::CannotCreate(kind) => About::Known(Cause::of_making(&Error::from(kind))),
+        WitnessFault::NoLine => About::Known(Cause::NoLine),
+        WitnessFault::OfLedger => About::Known(Cause::OfLedger),
+        WitnessFault::NotWitness => About::Witness(path),
+        WitnessFault::Full => About::Known(Cause::NoRoom),
+        WitnessFault::OutOfMemory => About::Known(Cause::OutOfMemory),
+    }
+}
+
+/// Prints why the witness couldn't record the run's range, if it couldn't and causes are printed.
+pub(crate) fn tell_unrecorded<R: Files + AllocGlobal + Eprint>(
+    rt: &R,
+    unrecorded: Option<WitnessRefusal>,
+    ledger: &str,
+    witness: Option<&str>,
+    causes: bool,
+) {
+    match unrecorded {
+        Some(WitnessRefusal::Witness(fault)) if causes => {
+            tell_cause(rt, about_witness(fault, witness.unwrap_or("")));
+        }
+        Some(WitnessRefusal::Ledger(fault)) if causes => {
+            let about = About::Ledger {
+                path: ledger,
+                fault,
+                step: Step::Check,
+            };
+            tell_cause(rt, about);
+        }
+        _ => {}
     }
 }
 

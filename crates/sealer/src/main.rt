@@ -15,6 +15,7 @@ ghost use Rattle.sealer.specs.Status.{AreAsked, IsOfCommand, IsOfPiping, IsStatu
 mod auditing;
 mod beginning;
 mod files;
+mod heard;
 mod kept;
 mod ledger;
 mod opening;
@@ -27,6 +28,7 @@ mod unpiping;
 
 use crate::auditing::audit;
 use crate::files::{about_list, names_of, pieces_of, quotes_of, read_list};
+use crate::heard::Heard;
 use crate::ledger::tell_ledger;
 use crate::opening::open;
 use crate::piping::pipe;
@@ -48,7 +50,8 @@ use std::rt::{Clock, Env, Files};
 use std::sync::Wait;
 use std::thread;
 use std::thread::Threads;
-use system_files::{About, Lines, Style, cause_of, stand_ins};
+use system_files::{About, Lines, Step, Style, cause_of, stand_ins};
+use system_ledger::LedgerFault;
 
 /// The status of a fault of usage, of the list of names, of the key file, the ledger or the journal file, or of the
 /// program's own reading and writing.
@@ -94,7 +97,7 @@ fn run_styled<R: Files + AllocGlobal + Clock + Env + Eprint + Threads + Wait + S
     };
     let streams = Streams {
         output: ToWrite(Lines::new(rt.alloc(), host.stdout(), output, listed)),
-        errors: ToWrite(Lines::new(rt.alloc(), host.stderr(), errors, None)),
+        errors: ToWrite(Heard::new(Lines::new(rt.alloc(), host.stderr(), errors, None))),
         terminals: Terminals {
             output: host.stdout().is_terminal(),
             errors: host.stderr().is_terminal(),
@@ -103,7 +106,23 @@ fn run_styled<R: Files + AllocGlobal + Clock + Env + Eprint + Threads + Wait + S
     };
     let (status, streams) = run(rt, host, matches, host.stdin(), streams);
     let (ToWrite(lines), ToWrite(errors)) = (streams.output, streams.errors);
-    errors.end(lines.end(status))
+    if causes && errors.is_of_store {
+        tell_cause(rt, about_store(matches));
+    }
+    errors.writer.end(lines.end(status))
+}
+
+/// The ledger file of the command, in which no range could be stored.
+fn about_store<'a>(matches: &ArgMatches<'a>) -> About<'a> {
+    let path = match matches.subcommand() {
+        Some((_, asked)) => asked.get_str("ledger").unwrap_or(""),
+        None => "",
+    };
+    About::Ledger {
+        path,
+        fault: LedgerFault::CannotOpen,
+        step: Step::Store,
+    }
 }
 
 /// The streams that a run writes.
@@ -209,10 +228,15 @@ pub(crate) fn explain<R: Files + AllocGlobal + Eprint, F: Display + Drop>(
 {
     let status = complain(rt, subject, fault);
     if causes {
-        let cause = cause_of(rt, about);
-        let _ = eprintln!(rt; "cause: {cause}");
+        tell_cause(rt, about);
     }
     status
+}
+
+/// Prints on standard error why something failed.
+pub(crate) fn tell_cause<R: Files + AllocGlobal + Eprint>(rt: &R, about: About<'_>) {
+    let cause = cause_of(rt, about);
+    let _ = eprintln!(rt; "cause: {cause}");
 }
 
 /// Runs the command that was asked for. `host` is the runtime too, and only it opens ledger files. Returns the status,

@@ -18,7 +18,7 @@ ghost use Rattle.sealer.specs.Status.{IsOfPiping, IsStatusOf};
 
 use crate::beginning::{
     Beginning, Begun, Refusal, begin, comes_again, journal_path, journal_place, ledger_of, look,
-    refuse, witness_asked,
+    refuse, tell_unrecorded, witness_asked,
 };
 use crate::{Streams, complain};
 use clap::ArgMatches;
@@ -139,8 +139,8 @@ fn pipe_in_turn<
     E: Report + Drop,
     J: Report + Drop,
 >(
-    rt: &'r T,
-    host: &HostRuntime,
+    rt: &T,
+    host: &'r HostRuntime,
     key: &Key,
     request: &PipeRequest<'r>,
     reader: &mut R,
@@ -156,7 +156,7 @@ fn pipe_in_turn<
 {
     let mut turn = Turn::new(host, request.ledger, request.wait);
     for _ in 0..MAX_TRIES {
-        match pipe_once(rt, host, key, request, reader, writer, out) {
+        match pipe_once(rt, host, key, request, reader, writer, out, causes) {
             Ok(status) => return status,
             Err(refusal) => {
                 if !comes_again(&mut turn, refusal) {
@@ -172,20 +172,21 @@ fn pipe_in_turn<
 // Seals the input if the ledger file can be opened now. Else nothing was read, written or printed.
 fn pipe_once<
     'r,
-    T: Files + AllocGlobal + Threads + Wait + Sync,
+    T: Files + AllocGlobal + Eprint + Threads + Wait + Sync,
     R: Source,
     W: Sink,
     L: Report + Drop,
     E: Report + Drop,
     J: Report + Drop,
 >(
-    rt: &'r T,
-    host: &HostRuntime,
+    rt: &T,
+    host: &'r HostRuntime,
     key: &Key,
     request: &PipeRequest<'r>,
     reader: &mut R,
     writer: &mut W,
     out: &mut Outs<L, E, J>,
+    causes: bool,
 ) -> Result<u8, Refusal>
     requires workers { (0 < request.now.workers) × (request.now.workers ≤ MAX_WORKERS) }
     requires depth { (0 < request.now.depth) × (request.now.depth ≤ MAX_DEPTH) }
@@ -196,7 +197,7 @@ fn pipe_once<
 {
     let ledger = ledger_of(request.ledger, request.may_make);
     let asked = witness_asked(request.witness, request.new_witness);
-    let mut witness = match look(rt, &ledger, asked, key, request.device) {
+    let mut witness = match look(host, &ledger, asked, key, request.device) {
         Ok(witness) => witness,
         Err(refusal) => return Err(refusal),
     };
@@ -215,6 +216,8 @@ fn pipe_once<
         Err(fault) => return Err(Refusal::Ledger(fault, Step::Open)),
     };
     close_ledger(file);
+    let unrecorded = witness.refusal();
+    tell_unrecorded(rt, unrecorded, request.ledger, request.witness, causes);
     Ok(status)
 }
 

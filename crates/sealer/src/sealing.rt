@@ -17,7 +17,7 @@ ghost use Rattle.sealer.specs.Status.{IsOfCommand, IsStatusOf, IsStatusOver};
 
 use crate::beginning::{
     Beginning, Begun, Refusal, begin, comes_again, journal_place, ledger_of, look, refuse,
-    witness_asked,
+    tell_unrecorded, witness_asked,
 };
 use crate::files::{clear, outs_of, progress_of, streams_of};
 use crate::kept::{destination_of, worked_of};
@@ -106,7 +106,7 @@ fn seal_to<
     E: Write + Drop,
 >(
     rt: &'r R,
-    host: &HostRuntime,
+    host: &'r HostRuntime,
     request: &SealRequest<'_, 'r>,
     folder: SystemFiles<'_, 'r, R, R::File>,
     streams: Streams<O, E>,
@@ -151,8 +151,8 @@ fn seal_in_turn<
     E: Report + Drop,
     J: Report + Drop,
 >(
-    rt: &'r R,
-    host: &HostRuntime,
+    rt: &R,
+    host: &'r HostRuntime,
     key: &Key,
     request: &SealRequest<'_, 'r>,
     folder: &mut F,
@@ -170,7 +170,7 @@ fn seal_in_turn<
 {
     let mut turn = Turn::new(host, request.ledger, request.wait);
     for _ in 0..MAX_TRIES {
-        match seal_once(rt, host, key, request, folder, out) {
+        match seal_once(rt, host, key, request, folder, out, causes) {
             Ok(status) => return status,
             Err(refusal) => {
                 if !comes_again(&mut turn, refusal) {
@@ -186,18 +186,19 @@ fn seal_in_turn<
 // Seals the files if the ledger file can be opened now. Else nothing was touched or printed.
 fn seal_once<
     'r,
-    R: Files + AllocGlobal + Threads + Wait + Sync,
+    R: Files + AllocGlobal + Eprint + Threads + Wait + Sync,
     F: SealingFolder,
     L: Report + Drop,
     E: Report + Drop,
     J: Report + Drop,
 >(
-    rt: &'r R,
-    host: &HostRuntime,
+    rt: &R,
+    host: &'r HostRuntime,
     key: &Key,
     request: &SealRequest<'_, 'r>,
     folder: &mut F,
     out: &mut Outs<L, E, J>,
+    causes: bool,
 ) -> Result<u8, Refusal>
     requires files { 0 < length request.now.files.now }
     requires workers { (0 < request.now.workers) × (request.now.workers ≤ MAX_WORKERS) }
@@ -211,7 +212,7 @@ fn seal_once<
 {
     let ledger = ledger_of(request.ledger, request.may_make);
     let asked = witness_asked(request.witness, request.new_witness);
-    let mut witness = match look(rt, &ledger, asked, key, request.device) {
+    let mut witness = match look(host, &ledger, asked, key, request.device) {
         Ok(witness) => witness,
         Err(refusal) => return Err(refusal),
     };
@@ -220,6 +221,8 @@ fn seal_once<
         Err(fault) => return Err(Refusal::Ledger(fault, Step::Open)),
     };
     close_ledger(file);
+    let unrecorded = witness.refusal();
+    tell_unrecorded(rt, unrecorded, request.ledger, request.witness, causes);
     Ok(status)
 }
 

@@ -3,7 +3,7 @@
 //! Of keys, lists and ledgers it looks again at what the run looked at, and creates, changes and removes nothing. So it
 //! can miss a cause that is gone by then. If nothing else is found after a ledger file passed its checks, the system
 //! reported an error.
-ghost use Rattle.std.specs.Prelude.{◌≡◌, ◌⊎◌};
+ghost use Rattle.std.specs.Prelude.{◌≡◌, ◌⊎◌, false, true};
 ghost use Rattle.std.specs.IoError.{error_kind};
 
 use crate::outputs::folder_and_name;
@@ -93,8 +93,8 @@ pub enum Cause {
     NoLine,
     #[error("it has no line, or one that no witness has")]
     NoWitness,
-    #[error("no file can be made in its folder")]
-    NoPlace,
+    #[error("no further line has room in 16 MiB")]
+    NoRoom,
     #[error("it is one of the run's own files")]
     OwnFile,
     #[error("its name is not UTF-8, or memory was refused")]
@@ -138,7 +138,7 @@ impl Cause {
     }
 
     /// The cause of an error of making a new file: what is missing then is its folder.
-    pub(crate) fn of_making(error: &io::Error) -> Cause
+    pub fn of_making(error: &io::Error) -> Cause
         ensures folder { error_kind error.now ≡ ErrorKind.NotFound → result ≡ Cause.NoFolder }
         ensures permission { error_kind error.now ≡ ErrorKind.PermissionDenied → result ≡ Cause.NoPermission }
         ensures full { error_kind error.now ≡ ErrorKind.StorageFull → result ≡ Cause.DiskFull }
@@ -184,6 +184,8 @@ pub enum Step {
     Check,
     /// The database, after these.
     Open,
+    /// The database, when a range was to be stored.
+    Store,
     /// The command that only reads it.
     Read,
 }
@@ -195,6 +197,8 @@ pub enum About<'a> {
     Known(Cause),
     /// A file that is read: a key file, or a list.
     Input(&'a str),
+    /// A witness: it has no line of that form, if it can be read.
+    Witness(&'a str),
     /// The ledger file at this path, and how it was refused.
     Ledger {
         path: &'a str,
@@ -210,6 +214,7 @@ pub fn cause_of<R: Files + AllocGlobal>(rt: &R, about: About<'_>) -> Cause
     match about {
         About::Known(cause) => cause,
         About::Input(path) => unusable(rt, path, false).unwrap_or(Cause::Passed),
+        About::Witness(path) => unusable(rt, path, false).unwrap_or(Cause::NoWitness),
         About::Ledger { path, fault, step } => ledger_cause(rt, path, fault, step),
     }
 }
@@ -265,7 +270,8 @@ fn not_opened<R: Files + AllocGlobal>(rt: &R, path: &str, step: Step) -> Cause {
         Some(Cause::NoFile) => return Cause::CannotMake,
         Some(cause) => return cause,
     }
-    if step == Step::Open && is_barred(rt, folder_and_name(log).0) {
+    let opened = matches!(step, Step::Open | Step::Store);
+    if opened && is_barred(rt, folder_and_name(log).0) {
         return Cause::NoPermission;
     }
     if has_more_names(rt, path) {
@@ -289,34 +295,47 @@ fn by_content<R: Files + AllocGlobal>(
     let has_pages = log_bytes.unwrap_or(0) > WITHOUT_PAGE;
     let bytes = length_at(rt, path).unwrap_or(0);
     if bytes == 0 || bytes == 1 && begins_with(rt, path, b"\0") {
-        return if step == Step::Open {
-            Cause::CannotMake
-        } else {
-            Cause::EmptyLedger
-        };
+        return cause_of_empty(step);
     }
     if !has_pages && !begins_with(rt, path, b"SQLite format 3\0") {
         return Cause::NoDatabase;
     }
-    // If it passes by now, another run wrote it meanwhile. The database itself says whether another run holds it.
-    let fault = fault_by_now(rt, path, step);
-    let opens = fault.is_none();
-    if fault == Some(LedgerFault::OutOfMemory) {
-        Cause::OutOfMemory
-    } else if opens && step == Step::Open && log_bytes.is_none() {
-        Cause::CannotMake
-    } else if opens && step == Step::Open {
-        Cause::SystemError
-    } else if opens {
-        Cause::Held
-    } else if has_pages {
-        Cause::AnotherLog
-    } else {
-        Cause::Damaged
+    match fault_by_now(rt, path, step) {
+        None => cause_of_passing(step, log_bytes.is_some()),
+        Some(LedgerFault::OutOfMemory) => Cause::OutOfMemory,
+        Some(_) if has_pages => Cause::AnotherLog,
+        Some(_) => Cause::Damaged,
     }
 }
 
-// Why a ledger file can't be opened when it is looked at once more. `None` means that it can.
+// Why an empty ledger file, or one of a single byte 0, was refused at this step.
+fn cause_of_empty(step: Step) -> Cause
+    ensures written { (step ≡ Step.Open) ⊎ (step ≡ Step.Store) → result ≡ Cause.CannotMake }
+    ensures seen { (step ≡ Step.Check) ⊎ (step ≡ Step.Read) → result ≡ Cause.EmptyLedger }
+{
+    match step {
+        Step::Open | Step::Store => Cause::CannotMake,
+        Step::Check | Step::Read => Cause::EmptyLedger,
+    }
+}
+
+// Why a ledger file was refused at this step that passes by now. A check was before another run wrote it. The database
+// itself says whether another run holds it: else the system failed, or the log couldn't be made.
+fn cause_of_passing(step: Step, has_log: bool) -> Cause
+    ensures seen { (step ≡ Step.Check) ⊎ (step ≡ Step.Read) → result ≡ Cause.Held }
+    ensures opened { step ≡ Step.Open → has_log ≡ true → result ≡ Cause.SystemError }
+    ensures without_log { step ≡ Step.Open → has_log ≡ false → result ≡ Cause.CannotMake }
+    ensures stored { step ≡ Step.Store → result ≡ Cause.SystemError }
+{
+    match step {
+        Step::Check | Step::Read => Cause::Held,
+        Step::Open if !has_log => Cause::CannotMake,
+        Step::Open | Step::Store => Cause::SystemError,
+    }
+}
+
+// Why a ledger file can't be opened when it is looked at once more. `None` means that it can, or that it has no tables
+// yet: a run makes them.
 fn fault_by_now<R: Files + AllocGlobal>(rt: &R, path: &str, step: Step) -> Option<LedgerFault> {
     match step {
         Step::Check => may_open(
@@ -327,7 +346,10 @@ fn fault_by_now<R: Files + AllocGlobal>(rt: &R, path: &str, step: Step) -> Optio
             },
         )
         .err(),
-        Step::Open | Step::Read => read_holdings(rt, path).err(),
+        _ => match read_holdings(rt, path) {
+            Ok(_) | Err(LedgerFault::NotThere) => None,
+            Err(fault) => Some(fault),
+        },
     }
 }
 

@@ -17,5 +17,7 @@ pub use crate::holdings::{Holding, read_holdings};
 pub use crate::ledger::{LedgerFault, LedgerPath, close_ledger, is_beside, may_open, open_ledger};
 pub use crate::older::is_older;
 pub use crate::turn::{MAX_TRIES, Turn};
-pub use crate::witness::{FileMark, Seen, WitnessFault, WitnessRefusal, floor_by};
+pub use crate::witness::{
+    FileMark, Seen, WitnessFault, WitnessRefusal, floor_by, mark_by, may_renew,
+};
 pub use crate::witness_file::{FileWitness, WitnessPath};

@@ -2,23 +2,25 @@
 ghost use Rattle.std.specs.Prelude.{◌≡◌};
 
 use crate::ledger::is_beside;
-use crate::witness::{FileMark, Seen, WitnessFault, WitnessRefusal, floor_by};
+use crate::witness::{
+    FileMark, MAX_BYTES, Seen, WitnessFault, WitnessRefusal, floor_by, mark_by, stamp_of,
+};
 use crate::witness_text::{WitnessLine, owner_text, renewed, seen_in};
 use journal_core::{Device, Range};
 use reserve_core::{Unrecorded, Witness};
 use std::alloc::AllocError;
-use std::fs::{File, Metadata, OpenFile, OpenOptions};
+use std::fs::{File, Metadata, OpenOptions};
 use std::io::{ErrorKind, Write};
-use std::os::unix::fs::{MetadataExt, OpenOptionsExt};
-use std::rt::Files;
+use std::os::unix::fs::{MetadataExt, OpenOptionsExt, fchown};
+use std::rt::{Clock, Files};
 use std::time::UNIX_EPOCH;
 use std::{fs, io};
 
-/// Bytes of the longest witness that is read.
-const MAX_BYTES: u64 = 1 << 20;
-
 /// The mode of a new file. The system takes away what the umask has.
 const SHARED: u32 = 0o666;
+
+/// How many names are tried for a file beside the witness.
+const MAX_NAMES: u32 = 100;
 
 /// Which witness a run asks for.
 #[derive(Clone, Copy, Debug)]
@@ -31,64 +33,122 @@ pub struct WitnessPath<'a> {
 
 /// The witness of a run: that at a path, or none.
 #[derive(Drop)]
-pub struct FileWitness<'r, R: Files + AllocGlobal> {
-    rt: &'r R,
+pub struct FileWitness<'r> {
+    host: &'r HostRuntime,
     // Its path. If that is a link, it is that of the link's target.
     path: Option<String>,
     // How its line begins.
     owner: String,
     ledger: &'r str,
-    floor: u64,
+    sight: Sight,
+    // Why it couldn't be renewed, if that was tried.
+    refusal: Option<WitnessRefusal>,
 }
 
-impl<'r, R: Files + AllocGlobal> FileWitness<'r, R> {
+// What a run saw of witness and ledger file before it reserved.
+#[derive(Clone, Copy)]
+struct Sight {
+    // No range may begin below this number.
+    floor: u64,
+    // Whether there was a witness.
+    is_there: bool,
+    // The ledger file, if there was one.
+    found: Option<FileMark>,
+    // The ledger file that the witness named, if it is to take another one.
+    moved: Option<FileMark>,
+    // When it looked, in nanoseconds. The names of files beside the witness include it.
+    begun: u64,
+}
+
+impl<'r> FileWitness<'r> {
     /// Reads the witness that is asked for, and looks at the ledger file. A file is made beside the witness and removed
     /// again, so that a folder in which none can be made is refused before a range is reserved.
     pub fn open(
-        rt: &'r R,
+        host: &'r HostRuntime,
         asked: WitnessPath<'_>,
         ledger: &'r str,
         key_id: &[u8; 32],
         device: Device,
-    ) -> Result<FileWitness<'r, R>, WitnessRefusal> {
+    ) -> Result<FileWitness<'r>, WitnessRefusal> {
         let Some(path) = asked.path else {
             return Ok(FileWitness {
-                rt,
+                host,
                 path: None,
-                owner: String::new(rt.alloc()),
+                owner: String::new(host.alloc()),
                 ledger,
-                floor: 0,
+                sight: Sight {
+                    floor: 0,
+                    is_there: false,
+                    found: None,
+                    moved: None,
+                    begun: 0,
+                },
+                refusal: None,
             });
         };
         let (Ok(path), Ok(beside), Ok(owner)) = (
-            real_path(rt, path),
-            real_path(rt, ledger),
-            owner_text(rt.alloc(), key_id, device),
+            real_path(host, path),
+            real_path(host, ledger),
+            owner_text(host.alloc(), key_id, device),
         ) else {
             return Err(WitnessRefusal::Witness(WitnessFault::OutOfMemory));
         };
-        let floor = floor_at(rt, path.as_str(), asked.is_new, ledger, owner.as_str())?;
-        let is_of_ledger = is_beside(path.as_str(), beside.as_str());
-        if is_of_ledger || !can_make_beside(rt, path.as_str(), floor) {
-            return Err(WitnessRefusal::Witness(WitnessFault::CannotCreate));
+        if is_beside(path.as_str(), beside.as_str()) {
+            return Err(WitnessRefusal::Witness(WitnessFault::OfLedger));
         }
-        Ok(FileWitness {
-            rt,
-            path: Some(path),
-            owner,
-            ledger,
-            floor,
-        })
+        let sight = sight_of(host, path.as_str(), asked.is_new, ledger, owner.as_str())?;
+        match try_folder(host, path.as_str(), sight.begun) {
+            Ok(()) => Ok(FileWitness {
+                host,
+                path: Some(path),
+                owner,
+                ledger,
+                sight,
+                refusal: None,
+            }),
+            Err(fault) => Err(WitnessRefusal::Witness(fault)),
+        }
+    }
+
+    /// Returns why it couldn't be renewed, if that was tried.
+    pub fn refusal(&self) -> Option<WitnessRefusal> {
+        self.refusal
+    }
+
+    // Writes the witness anew, with this number for the owner.
+    fn renew(&self, path: &str, next: u64) -> Result<(), WitnessRefusal> {
+        let alloc = self.host.alloc();
+        let sight = self.sight;
+        let file = match mark_at(self.host, self.ledger) {
+            Ok(now) => mark_by(sight.found, now)?,
+            Err(error) => return Err(unread(&error)),
+        };
+        let owner = self.owner.as_str();
+        let line = WitnessLine { owner, next, file };
+        let text = match read_witness(self.host, path) {
+            Ok(old) => renewed(alloc, old.as_slice(), line, sight.moved)?,
+            Err(WitnessFault::NotThere) if !sight.is_there => {
+                match format!(in alloc; "{line}") {
+                    Ok(text) => text,
+                    Err(_) => return Err(WitnessRefusal::Witness(WitnessFault::OutOfMemory)),
+                }
+            }
+            Err(fault) => return Err(WitnessRefusal::Witness(fault)),
+        };
+        match replace(self.host, path, sight.begun, text.as_bytes()) {
+            Ok(()) => Ok(()),
+            Err(fault) => Err(WitnessRefusal::Witness(fault)),
+        }
     }
 }
 
-impl<R: Files + AllocGlobal> Witness for FileWitness<'_, R> {
-    ghost floor = { λ witness. witness.floor };
+impl Witness for FileWitness<'_> {
+    ghost floor = { λ witness. witness.sight.floor };
 
     fn floor(&self) -> u64
-        ensures { result ≡ self.now.floor }
+        ensures { result ≡ self.now.sight.floor }
     {
-        self.floor
+        self.sight.floor
     }
 
     fn record(&mut self, _key_id: &[u8; 32], range: &Range) -> Result<(), Unrecorded> {
@@ -96,37 +156,55 @@ impl<R: Files + AllocGlobal> Witness for FileWitness<'_, R> {
             return Ok(());
         };
         let next = u64::from(range.lo()) + u64::from(range.size());
-        match renew(
-            self.rt,
-            path.as_str(),
-            self.ledger,
-            self.owner.as_str(),
-            next,
-        ) {
+        match self.renew(path.as_str(), next) {
             Ok(()) => Ok(()),
-            Err(_) => Err(Unrecorded),
+            Err(refusal) => {
+                self.refusal = Some(refusal);
+                Err(Unrecorded)
+            }
         }
     }
 }
 
-// Whether a file can be made in the folder of the witness. One that is there already is left alone.
-fn can_make_beside<R: Files + AllocGlobal>(rt: &R, path: &str, floor: u64) -> bool {
-    let Ok(trial) = format!(in rt.alloc(); "{path}.{floor}.try") else {
-        return false;
-    };
-    match make_new(rt, trial.as_str(), SHARED) {
-        Ok(_) => fs::remove_file(rt, trial.as_str()).is_ok(),
-        Err(error) => error.kind() == ErrorKind::AlreadyExists,
+// The fault of a file that can't be looked at.
+fn unread(error: &io::Error) -> WitnessRefusal {
+    WitnessRefusal::Witness(WitnessFault::CannotOpen(error.kind()))
+}
+
+// Checks whether a file can be made and removed in the folder of the witness.
+fn try_folder(host: &HostRuntime, path: &str, begun: u64) -> Result<(), WitnessFault> {
+    let (name, file) = make_beside(host, path, begun, "try", SHARED)?;
+    drop(file);
+    match fs::remove_file(host, name.as_str()) {
+        Ok(()) => Ok(()),
+        Err(error) if error.kind() == ErrorKind::NotFound => Ok(()),
+        Err(error) => Err(WitnessFault::CannotCreate(error.kind())),
     }
 }
 
-// Makes a file of this mode, less what the umask takes away, if there is none of its name.
-fn make_new<R: Files>(rt: &R, path: &str, mode: u32) -> io::Result<R::File> {
-    OpenOptions::new()
-        .write(true)
-        .create_new(true)
-        .mode(mode)
-        .open(rt, path)
+// Makes a file beside the witness, of this mode less what the umask takes away, under a name that no file has. So none
+// that a killed run left is in its way. Its name has a number and this end.
+fn make_beside(
+    host: &HostRuntime,
+    path: &str,
+    begun: u64,
+    end: &str,
+    mode: u32,
+) -> Result<(String, File), WitnessFault> {
+    for nth in 0..MAX_NAMES {
+        let stamp = stamp_of(begun, nth);
+        let Ok(name) = format!(in host.alloc(); "{path}.{stamp:016x}.{end}") else {
+            return Err(WitnessFault::OutOfMemory);
+        };
+        let mut options = OpenOptions::new();
+        options.write(true).create_new(true).mode(mode);
+        match options.open(host, name.as_str()) {
+            Ok(file) => return Ok((name, file)),
+            Err(error) if error.kind() == ErrorKind::AlreadyExists => {}
+            Err(error) => return Err(WitnessFault::CannotCreate(error.kind())),
+        }
+    }
+    Err(WitnessFault::CannotCreate(ErrorKind::AlreadyExists))
 }
 
 // The path of a file from the root, or of a link's target. If there is no file, that of its folder and its name.
@@ -153,21 +231,44 @@ fn folder_and_name(path: &str) -> (&str, &str) {
     }
 }
 
-// The least number with which the next range may begin, by the witness at this path.
-fn floor_at<R: Files + AllocGlobal>(
-    rt: &R,
+// What is to be seen of the witness at this path and of the ledger file, if a run may begin by them.
+fn sight_of(
+    host: &HostRuntime,
     path: &str,
     is_new: bool,
     ledger: &str,
     owner: &str,
-) -> Result<u64, WitnessRefusal> {
-    let seen = match seen_at(rt, path, is_new, owner) {
+) -> Result<Sight, WitnessRefusal> {
+    let seen = match seen_at(host, path, is_new, owner) {
         Ok(seen) => seen,
         Err(fault) => return Err(WitnessRefusal::Witness(fault)),
     };
-    match mark_at(rt, ledger) {
-        Ok(found) => floor_by(seen, found, is_new),
-        Err(_) => Err(WitnessRefusal::Witness(WitnessFault::CannotOpen)),
+    let found = match mark_at(host, ledger) {
+        Ok(found) => found,
+        Err(error) => return Err(unread(&error)),
+    };
+    let floor = floor_by(seen, found, is_new)?;
+    let moved = match seen {
+        Some(seen) if !seen.has_room() => {
+            return Err(WitnessRefusal::Witness(WitnessFault::Full));
+        }
+        Some(seen) if is_new => Some(seen.file),
+        _ => None,
+    };
+    Ok(Sight {
+        floor,
+        is_there: seen.is_some(),
+        found,
+        moved,
+        begun: now(host),
+    })
+}
+
+// The time, in nanoseconds since 1970. It is 0 if the clock fails.
+fn now<R: Clock>(rt: &R) -> u64 {
+    match rt.since_1970() {
+        Ok(time) => u64::try_from(time.as_nanos()).unwrap_or(0),
+        Err(_) => 0,
     }
 }
 
@@ -222,50 +323,53 @@ fn read_witness<R: Files + AllocGlobal>(rt: &R, path: &str) -> Result<Vec<u8>, W
         }
         Ok(_) => {}
         Err(error) if error.kind() == ErrorKind::NotFound => return Err(WitnessFault::NotThere),
-        Err(_) => return Err(WitnessFault::CannotOpen),
+        Err(error) => return Err(WitnessFault::CannotOpen(error.kind())),
     }
     match fs::read(rt, path) {
         Ok(bytes) => Ok(bytes),
         Err(error) if error.kind() == ErrorKind::OutOfMemory => Err(WitnessFault::OutOfMemory),
-        Err(_) => Err(WitnessFault::CannotOpen),
+        Err(error) => Err(WitnessFault::CannotOpen(error.kind())),
     }
 }
 
-// Writes the witness anew, with this number for the owner, and the ledger file that is there now.
-fn renew<R: Files + AllocGlobal>(
-    rt: &R,
-    path: &str,
-    ledger: &str,
-    owner: &str,
-    next: u64,
-) -> io::Result<()> {
-    let file = mark_of(&fs::metadata(rt, ledger)?);
-    let alloc = rt.alloc();
-    let line = WitnessLine { owner, next, file };
-    let text = match read_witness(rt, path) {
-        Ok(old) => renewed(alloc, old.as_slice(), line)?,
-        Err(WitnessFault::NotThere) => format!(in alloc; "{line}")?,
-        Err(_) => return Err(io::Error::from(ErrorKind::InvalidData)),
+// Writes a new file with mode, owner and group of the witness, syncs it, and gives it the witness's name. Then the folder
+// is synced.
+fn replace(host: &HostRuntime, path: &str, begun: u64, text: &[u8]) -> Result<(), WitnessFault> {
+    let old = fs::metadata(host, path).ok();
+    let mode = match &old {
+        Some(found) => found.mode() & 0o777,
+        None => SHARED,
     };
-    // No other range of this owner ends there, so a file that a killed run left is in nobody's way.
-    let new = format!(in alloc; "{path}.{next}.new")?;
-    replace(rt, new.as_str(), path, text.as_bytes())
+    let (new, file) = make_beside(host, path, begun, "new", mode)?;
+    let written = write_synced(file, &old, text);
+    let named = match written {
+        Ok(()) => fs::rename(host, new.as_str(), path),
+        Err(error) => Err(error),
+    };
+    let synced = match named {
+        Ok(()) => sync_folder(host, folder_and_name(path).0),
+        Err(error) => {
+            let _ = fs::remove_file(host, new.as_str());
+            Err(error)
+        }
+    };
+    match synced {
+        Ok(()) => Ok(()),
+        Err(error) => Err(WitnessFault::CannotCreate(error.kind())),
+    }
 }
 
-// Writes a new file with the mode of the witness, syncs it, and gives it the witness's name. Then the folder is synced.
-fn replace<R: Files>(rt: &R, new: &str, path: &str, text: &[u8]) -> io::Result<()> {
-    let mode = match fs::metadata(rt, path) {
-        Ok(found) => found.mode() & 0o777,
-        Err(_) => SHARED,
-    };
-    let file = make_new(rt, new, mode)?;
+// Writes a file, and syncs it. It gets the owner and the group of an older one as far as the system lets this user.
+fn write_synced(file: File, old: &Option<Metadata>, text: &[u8]) -> io::Result<()> {
     let mut file = file;
-    let is_written = file.write_all(text).is_ok() && file.sync_all().is_ok();
-    drop(file);
-    let replaced = is_written && fs::rename(rt, new, path).is_ok();
-    if !replaced {
-        let _ = fs::remove_file(rt, new);
-        return Err(io::Error::from(ErrorKind::Other));
+    if let Some(old) = old {
+        let _ = fchown(&file, None, Some(old.gid()));
+        let _ = fchown(&file, Some(old.uid()), None);
     }
-    File::open(rt, folder_and_name(path).0)?.sync_all()
+    file.write_all(text)?;
+    file.sync_all()
+}
+
+fn sync_folder(host: &HostRuntime, folder: &str) -> io::Result<()> {
+    File::open(host, folder)?.sync_all()
 }

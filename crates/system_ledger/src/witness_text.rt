@@ -2,13 +2,13 @@
 //!
 //! A line is `key`, the key ID in 64 digits, `device` and its number, `next` and where the next range begins, and `file`
 //! with what marks the ledger file: device, inode, and the time of its creation or `-`.
-use crate::witness::{FileMark, Seen};
+use crate::ledger::LedgerFault;
+use crate::witness::{FileMark, MAX_BYTES, Seen, WitnessFault, WitnessRefusal, may_renew};
 use journal_core::Device;
 use reserve_core::NUMBERS;
 use std::alloc::{AllocError, Global};
+use std::fmt;
 use std::fmt::{Display, Formatter, Write as _};
-use std::io::ErrorKind;
-use std::{fmt, io};
 
 // What the text of a witness says for this owner. `None` if it is no witness: it has a line or more, each of the form,
 // all of one ledger file, and one of the owner at most.
@@ -32,7 +32,11 @@ pub(crate) fn seen_in(bytes: &[u8], owner: &str) -> Option<Seen> {
             next = Some(line.next);
         }
     }
-    Some(Seen { file: file?, next })
+    Some(Seen {
+        file: file?,
+        next,
+        lines: text.lines().count() as u64,
+    })
 }
 
 // A line of a witness: the key ID and device as text, where the next range begins, and the mark of the ledger file.
@@ -80,9 +84,9 @@ fn is_owner(text: &str) -> bool {
     }
 }
 
-// A number in digits alone.
+// A number in at most 20 digits, and nothing else.
 fn number_in(text: &str) -> Option<u64> {
-    if text.starts_with('+') {
+    if text.starts_with('+') || text.len() > 20 {
         return None;
     }
     text.parse::<u64>().ok()
@@ -123,21 +127,41 @@ impl Display for WitnessLine<'_> {
 }
 
 // The text of a witness, with this line for its owner, and with the line's ledger file in all others. It never replaces
-// what is no witness, and lowers no number.
-pub(crate) fn renewed(alloc: Global, old: &[u8], line: WitnessLine<'_>) -> io::Result<String> {
-    let refused = || io::Error::from(ErrorKind::InvalidData);
-    match seen_in(old, line.owner) {
-        Some(seen) if seen.next.unwrap_or(0) <= line.next => {}
-        _ => return Err(refused()),
-    }
-    let Ok(text) = std::str::from_utf8(old) else {
-        return Err(refused());
+// what is no witness, or that of another ledger file than the line's or the one `moved`, and lowers no number.
+pub(crate) fn renewed(
+    alloc: Global,
+    old: &[u8],
+    line: WitnessLine<'_>,
+    moved: Option<FileMark>,
+) -> Result<String, WitnessRefusal> {
+    let no_witness = WitnessRefusal::Witness(WitnessFault::NotWitness);
+    let (Some(seen), Ok(text)) = (seen_in(old, line.owner), std::str::from_utf8(old)) else {
+        return Err(no_witness);
     };
+    if !may_renew(&seen.file, &line.file, moved) || seen.next.unwrap_or(0) > line.next {
+        return Err(WitnessRefusal::Ledger(LedgerFault::NotSeen));
+    }
+    let Ok(new) = with_line(alloc, text, line) else {
+        return Err(WitnessRefusal::Witness(WitnessFault::OutOfMemory));
+    };
+    match new {
+        Some(new) if new.len() as u64 <= MAX_BYTES => Ok(new),
+        Some(_) => Err(WitnessRefusal::Witness(WitnessFault::Full)),
+        None => Err(no_witness),
+    }
+}
+
+// The lines of a witness, with this one in the place of its owner's or at the end. `None` if one is no line.
+fn with_line(
+    alloc: Global,
+    text: &str,
+    line: WitnessLine<'_>,
+) -> Result<Option<String>, fmt::Error> {
     let mut new = String::new(alloc);
     let mut is_there = false;
     for other in text.lines() {
         let Some(other) = line_in(other) else {
-            return Err(refused());
+            return Ok(None);
         };
         let is_owners = other.owner == line.owner;
         let next = if is_owners { line.next } else { other.next };
@@ -156,5 +180,5 @@ pub(crate) fn renewed(alloc: Global, old: &[u8], line: WitnessLine<'_>) -> io::R
     if !is_there {
         write!(new, "{line}")?;
     }
-    Ok(new)
+    Ok(Some(new))
 }
