@@ -5,8 +5,9 @@ A run of the built program is recorded by strace, with the bytes that it writes.
 left, and of the folder the names that it had at its last fsync. What came later may be there after a cut or not: nothing of it, all, each
 beginning, all but one, and the last write torn within a sector's bounds; of names nothing, all, each beginning. Each such state of the ledger,
 its log and its witness is laid out, with the ledger's own inode, and the same command runs again: it must succeed, and give no number that
-an output had at the cut, also if its bytes never reached the disk. So no state that an honest disk leaves is refused. Then the ledger and the
-log from before the recorded run are put back beside the witness: the next run must be refused, and leave ledger and witness as they are.
+an output had at the cut, also if its bytes never reached the disk. So no state that an honest disk leaves is refused, nor is a run of another
+device whose range ends at the same number. Then the ledger and the log from before the recorded run are put back beside the witness: the next
+run must be refused, and leave ledger and witness as they are.
 
 The runs: a first one, which makes ledger and witness, as the user gives it again; a later one with --no-new-ledger; a later one of a second
 device over the same two files; and, of some states after a cut, the run that repairs it, cut again. The states are tried side by side, one for
@@ -219,9 +220,9 @@ def record(words):
         yield call, disk, used
 
 
-def cut_each(what, words, given, again):
+def cut_each(what, words, given, again, other=None):
     """Cuts a run at each call, and leaves the files as they were. Yields for each state what is to be tried. `again` says of every how many
-    states the run that repairs it is cut too."""
+    states the run that repairs it is cut too, and `other` is a run of another device."""
     before = frozenset(folder().items())
     tried = {}
     for n, (call, disk, used) in enumerate(list_of(words)):
@@ -232,7 +233,7 @@ def cut_each(what, words, given, again):
         if again and n % again == 0:
             lay_out(state)
             yield from cut_each(f"{where}, and again", words, taken, 0)
-        yield where, words, state, taken, before
+        yield where, words, other, state, taken, before
     lay_out(before)
 
 
@@ -254,14 +255,16 @@ def begin(room):
 
 def tried(asked):
     """One state: the run after the cut, and the one over the ledger from before. Returns what differs."""
-    where, words, state, taken, before = asked
-    lay_out((name, MARK.sub(mark, data) if name.startswith("witness") else data) for name, data in state)
-    run = subprocess.run(words, capture_output=True, text=True, timeout=60)
-    if run.returncode != 0:
-        return [f"{where}: the run after has status {run.returncode}, prints {run.stdout}{run.stderr}"]
-    with open("a.stm", "rb") as file:
-        number = number_in(file.read(17))
-    wrong = [f"{where}: number {number} comes again"] if number in taken else []
+    where, words, other, state, taken, before = asked
+    wrong = []
+    for run_after in (other, words) if other else (words,):
+        lay_out((name, MARK.sub(mark, data) if name.startswith("witness") else data) for name, data in state)
+        run = subprocess.run(run_after, capture_output=True, text=True, timeout=60)
+        if run.returncode != 0:
+            return [f"{where}: the run after has status {run.returncode}, prints {run.stdout}{run.stderr}"]
+        with open("a.stm", "rb") as file:
+            number = number_in(file.read(17))
+        wrong += [f"{where}: number {number} comes again"] if number in taken else []
     # The witness of the run after stays beside the ledger and the log from before.
     now = {name: data for name, data in before if not name.startswith("witness")}
     with open("witness", "rb") as file:
@@ -278,9 +281,10 @@ def tried(asked):
 
 
 def made():
-    """Makes the file that is sealed."""
-    with open("a", "wb") as file:
-        file.write(b"a" * 1000)
+    """Makes the files that are sealed."""
+    for name in ("a", "b"):
+        with open(name, "wb") as file:
+            file.write(b"a" * 1000)
 
 
 def states():
@@ -296,7 +300,8 @@ def states():
         with open("a.stm", "rb") as file:
             given.add(number_in(file.read(17)))
         os.remove("a.stm")
-    yield from cut_each("a later run", command(1, "--no-new-ledger"), given, 40)
+    # Device 1 has two numbers and device 2 has one.
+    yield from cut_each("a later run", command(1, "--no-new-ledger"), given, 40, command(2, "--no-new-ledger", "b"))
     yield from cut_each("a later run of device 2", command(2, "--no-new-ledger"), given, 0)
 
 

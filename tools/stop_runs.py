@@ -12,6 +12,8 @@ on (0).
 Then it is killed as it makes a ledger, at each of its calls on files, and cut within each of its writes there: the next run succeeds, and no
 number comes twice. A ledger that was emptied beside the log of a later run, wherever that was killed, is refused.
 
+Then it is killed at its calls over a ledger and a witness that another device and another key share: none of them is refused after it.
+
 Then it is killed right after its first finished output, and the log is deleted, cut at 20 lengths, has one bit flipped at 50 places, or is
 another ledger's, with pages or without. The next run gives a number that no run had, or ends with `ledger: cannot open` and leaves the file
 unchanged. The same holds if the file itself is cut at each page and around its ends, has a page of zeros, or one after it, with its log and
@@ -551,6 +553,69 @@ def emptied_beside_each_log():
     put(*before)
 
 
+def one_witness():
+    """Kills runs of one key and device at their calls on files, over a ledger and a witness that another device and another key share. What such
+    a run left may not refuse any of them, though their ranges end at the same number, and no number comes twice."""
+    global stops
+    with open("another key", "w", encoding="ascii") as file:
+        file.write("7" * 64)
+    owners = {"device 1": (key, "1"), "device 2": (key, "2"), "another key": ("another key", "1")}
+    files = [f"file {n}" for n in range(4)]
+    for name in files:
+        with open(name, "w", encoding="ascii") as file:
+            file.write(name)
+    next_of = dict.fromkeys(owners, 0)
+    seen, left = set(), Counter()
+
+    def words(owner, count, *more):
+        path, device = owners[owner]
+        return [sealer, "seal", "--key", path, "--ledger", "shared", "--device", device, "--witness", "seen", *more, *files[:count]]
+
+    def collect(owner, what):
+        """The numbers of the outputs, which no container of the owner has. They are removed. One file can have two names."""
+        files_of = {os.stat(name).st_ino: name for name in outputs() if os.path.getsize(name) >= 17}
+        numbers = [number_in(name) for name in files_of.values()]
+        for number in numbers:
+            if (owner, number) in seen:
+                differs(f"{what}: {owner} has number {number} twice")
+            seen.add((owner, number))
+        clear()
+        return numbers
+
+    def seals(owner, count, what, *more):
+        run = subprocess.run(words(owner, count, *more), capture_output=True, text=True, timeout=60)
+        numbers = collect(owner, what)
+        if run.returncode != 0 or len(numbers) != count:
+            differs(f"{what}: {owner} has status {run.returncode}, prints {run.stdout}{run.stderr}")
+            return
+        next_of[owner] = max(numbers) + 1
+
+    for owner in owners:
+        seals(owner, 1, "the first runs", "--new-witness")
+    for call in ("openat", "fchown", "write", "fsync", "rename", "unlink"):
+        for n in range(1, 40):
+            what = f"one witness, {call} {n}"
+            begin = max(next_of.values())
+            for owner, number in next_of.items():
+                if number < begin:
+                    seals(owner, begin - number, what)
+            killed = ["strace", "-f", "-qq", "-o", "/dev/null", "-e", f"trace={call}", "-e", f"inject={call}:signal=KILL:when={n}"]
+            status = subprocess.run([*killed, *words("device 1", 1)], capture_output=True).returncode
+            collect("device 1", what)
+            if status == 0:
+                next_of["device 1"] += 1
+                break
+            stops += 1
+            left.update({name.rsplit(".", 1)[1] for name in os.listdir(".") if name.startswith("seen.")})
+            for owner in ("device 2", "another key", "device 1"):
+                seals(owner, 1, what)
+            for name in os.listdir("."):
+                if name.startswith("seen."):
+                    os.remove(name)
+    if left["new"] < 3 or not left["try"]:
+        differs(f"one witness: kills left {dict(left)}")
+
+
 def in_a_folder(work):
     """Does some work in a folder of its own, over a ledger that has a number. Returns the stops, and what differs."""
     folder = tempfile.mkdtemp(dir=shared)
@@ -593,6 +658,7 @@ WORKS = {
     "first runs": first_runs,
     "first writes": first_writes,
     "emptied ledgers": emptied_beside_each_log,
+    "one witness": one_witness,
 }
 
 
@@ -622,7 +688,8 @@ count, kills = sum(counts), sum(how == "signal=KILL" for _, _, _, how in stops_t
 if 2 * met < kills:
     bad.append(f"of {kills} kills {met} met the program")
 print(
-    f"altered ledgers: {counts[0]} and {counts[3]} emptied; kills: {kills} and {counts[1]} as a ledger is made, cuts of its writes: {counts[2]}; "
+    f"altered ledgers: {counts[0]} and {counts[3]} emptied; kills: {kills}, {counts[1]} as a ledger is made and {counts[4]} over one witness, "
+    f"cuts of its writes: {counts[2]}; "
     f"calls that fail: {len(stops_to_try) - kills}"
 )
 shutil.rmtree(shared)
