@@ -1357,6 +1357,7 @@ journal: write failed'
     wants full-disk-ledger 2 '' 'ledger: cannot open'
     is full-disk-seals-nothing no test -e life/small.empty.stm
     # a first run that runs out of room at any step: its cause is no damage, and it goes on once there is room
+    rm small/fill small/x
     mkdir small/first
     for pages in $(seq 0 16); do
         rm -rf small/first/* small/room
@@ -1374,7 +1375,7 @@ journal: write failed'
         wants "full-disk-goes-on $pages" 0 'sealed life/small.empty file 0 bytes 0' ''
         rm life/small.empty.stm
     done
-    rm -rf small/fill small/x small/first
+    rm -rf small/fill small/first
     run seal --key "$key" --ledger small/ledger --device 1 life/small.empty
     wants room-again 0 'sealed life/small.empty file 0 bytes 0' ''
     # A reservation that finds no room uses no number, and the next one goes on after the first.
@@ -1628,11 +1629,12 @@ run seal --key "$key" --ledger life/links/lost --device 1 life/first
 wants log-of-a-lost-ledger-by-a-link 2 '' 'ledger: cannot open'
 is no-lost-ledger-was-made-by-a-link no test -e life/lost
 
-(trap '' XFSZ; ulimit -f 8; exec "$sealer" seal --key "$key" --ledger life/ledger --device 5 --verbose life/waits) > out 2> err
+(umask 077; cp "$key" life/own-key)
+(trap '' XFSZ; ulimit -f 8; exec "$sealer" seal --key life/own-key --ledger life/ledger --device 5 --verbose life/waits) > out 2> err
 status=$?
 wants ledger-store-fails 2 '' 'ledger: store failed
 cause: the system reports an error'
-(trap '' XFSZ; ulimit -f 8; exec "$sealer" pipe --key "$key" --ledger life/ledger --device 5 --verbose < life/waits) > out 2> err
+(trap '' XFSZ; ulimit -f 8; exec "$sealer" pipe --key life/own-key --ledger life/ledger --device 5 --verbose < life/waits) > out 2> err
 status=$?
 wants ledger-store-fails-for-a-stream 2 '' 'ledger: store failed
 cause: the system reports an error'
