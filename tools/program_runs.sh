@@ -2718,7 +2718,7 @@ unpipes spool-is-not-needed 'opened - bytes 16773096' files/fits
     { for _ in 1 2 3 4; do head -c 4194304; sleep 0.3; done; cat; } > files/plain
 is progress-of-a-spool cmp -s files/plain files/fits
 is progress-of-both-readings grep -qE ', (1[7-9]|2[0-9]|3[0-2]) MiB, ' <(tr '\r' '\n' < err)
-for folder in none '' files/long; do
+for folder in none '' files/long /dev/null; do
     unpiped "--spool=$folder" < <(cat files/fits.stm)
     wants "spool '$folder'" 2 '' 'usage: the folder of the spool is missing'
     is "spool-writes-nothing '$folder'" test ! -s files/plain

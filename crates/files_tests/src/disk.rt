@@ -1,26 +1,19 @@
-//! The files of the system, some calls of which fail.
+//! The files of the system, with another file as standard input.
 
 use std::alloc::{Allocator, Global};
 use std::cell::Cell;
 use std::fmt::Display;
 use std::fs::{Metadata, OpenOptions};
 use std::io;
-use std::io::ErrorKind;
 use std::rt::{Clock, Files};
 use std::time::Duration;
 
-/// The files of a runtime. Some calls fail, and the others are counted and passed on.
+/// The files of a runtime. Those that are opened are counted.
 #[derive(Drop)]
 pub struct Disk<'h, R> {
     host: &'h R,
     /// How many files were opened.
     pub opened: Cell<u32>,
-    // How many names of the next files are taken.
-    taken: Cell<u32>,
-    // Whether names can be removed.
-    removes: bool,
-    // What is opened in place of each file.
-    instead: Option<&'static str>,
     // What is opened in place of standard input, and of what `/proc` says of it.
     input: Option<(&'h str, &'h str)>,
 }
@@ -31,18 +24,8 @@ impl<'h, R> Disk<'h, R> {
         Disk {
             host,
             opened: Cell::new(0),
-            taken: Cell::new(0),
-            removes: true,
-            instead: None,
             input: None,
         }
-    }
-
-    /// A disk on which this many names are taken before one isn't.
-    pub fn taken(host: &'h R, taken: u32) -> Disk<'h, R> {
-        let disk = Disk::new(host);
-        disk.taken.set(taken);
-        disk
     }
 
     /// A disk with this file as standard input, of which `/proc` says what the other file has.
@@ -59,22 +42,6 @@ impl<'h, R> Disk<'h, R> {
             (Some((input, _)), "/proc/self/fd/0") => input,
             (Some((_, state)), "/proc/self/fdinfo/0") => state,
             _ => path,
-        }
-    }
-
-    /// A disk on which no name can be removed.
-    pub fn keeping(host: &'h R) -> Disk<'h, R> {
-        Disk {
-            removes: false,
-            ..Disk::new(host)
-        }
-    }
-
-    /// A disk each of whose files is full.
-    pub fn full(host: &'h R) -> Disk<'h, R> {
-        Disk {
-            instead: Some("/dev/full"),
-            ..Disk::new(host)
         }
     }
 }
@@ -113,18 +80,8 @@ impl<R: Files> Files for Disk<'_, R> {
     type Dir = R::Dir;
 
     fn open_file(&self, how: &OpenOptions, path: &str) -> io::Result<R::File> {
-        if self.taken.get() > 0 {
-            self.taken.set(self.taken.get().saturating_sub(1));
-            return Err(io::Error::from(ErrorKind::AlreadyExists));
-        }
         self.opened.set(self.opened.get().saturating_add(1));
-        match self.instead {
-            Some(instead) => OpenOptions::new()
-                .read(true)
-                .write(true)
-                .open(self.host, instead),
-            None => self.host.open_file(how, self.path_of(path)),
-        }
+        self.host.open_file(how, self.path_of(path))
     }
 
     fn open_dir(&self, path: &str) -> io::Result<R::Dir> {
@@ -148,15 +105,7 @@ impl<R: Files> Files for Disk<'_, R> {
     }
 
     fn remove_file(&self, path: &str) -> io::Result<()> {
-        if self.instead.is_some() {
-            return Ok(());
-        }
-        let removed = self.host.remove_file(path);
-        if self.removes {
-            removed
-        } else {
-            Err(io::Error::from(ErrorKind::PermissionDenied))
-        }
+        self.host.remove_file(path)
     }
 
     fn create_dir(&self, path: &str) -> io::Result<()> {

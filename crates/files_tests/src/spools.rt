@@ -1,12 +1,12 @@
-//! A spool: that it gives the bytes that were put, again and again, from memory and from a file, and when it fails.
+//! A spool: that it gives the bytes that were put, again and again, from memory and from a file. When it fails is tried
+//! through the program, in `tools/program_runs.sh`.
 
 use crate::disk::Disk;
 use folder_core::{FileReader, Spool};
 use io_core::{Failed, Source};
 use std::alloc::{AllocError, Global};
 use std::rt::{Clock, Files};
-use std::test::Fail;
-use system_files::{FileSpool, is_folder, spool_folder};
+use system_files::FileSpool;
 
 const FOLDER: &str = "/var/tmp";
 
@@ -157,75 +157,7 @@ fn all_come_back<R: Files + AllocGlobal + Clock>(rt: &R) -> Result<bool, AllocEr
 }
 
 #[test]
-fn what_was_put_is_read_again(rt: HostRuntime) -> Result<(), Fail> {
+fn what_was_put_is_read_again(rt: HostRuntime) -> Result<(), AllocError> {
     assert!(rt; all_come_back(&rt)?);
     Ok(())
-}
-
-// Whether a spool takes 16 MiB, fails at the next byte, and stays failed.
-fn fails_after<R: Files + AllocGlobal + Clock>(
-    spool: &mut FileSpool<'_, R>,
-    buffer: &mut [u8],
-) -> bool {
-    keeps(spool, 16 * MIB, buffer)
-        && !spool.failed
-        && spool.put(b"1") == Err(Failed)
-        && spool.failed
-        && spool.put(b"1") == Err(Failed)
-        && spool.again() == Err(Failed)
-        && spool.read(buffer) == Err(Failed)
-}
-
-// Whether a spool on this disk does so.
-fn fails<R: Files + AllocGlobal + Clock>(disk: &Disk<'_, R>, folder: &str) -> bool
-where
-    R: Drop,
-{
-    let Ok(mut buffer) = buffer_of(disk.alloc(), 1 << 20) else {
-        return false;
-    };
-    let mut spool = FileSpool::new(disk, folder);
-    fails_after(&mut spool, buffer.as_mut_slice())
-}
-
-#[test]
-fn it_fails_if_its_file_does(rt: HostRuntime) {
-    assert!(rt; fails(&Disk::new(&rt), "/var/tmp/no such folder"));
-    assert!(rt; fails(&Disk::new(&rt), ""));
-    assert!(rt; fails(&Disk::keeping(&rt), FOLDER));
-    assert!(rt; fails(&Disk::full(&rt), FOLDER));
-    assert!(rt; fails(&Disk::taken(&rt, 8), FOLDER));
-}
-
-// Whether a spool on this disk keeps 17 MiB.
-fn is_kept<R: Files + AllocGlobal + Clock>(disk: &Disk<'_, R>) -> bool
-where
-    R: Drop,
-{
-    let Ok(mut buffer) = buffer_of(disk.alloc(), 1 << 20) else {
-        return false;
-    };
-    let mut spool = FileSpool::new(disk, FOLDER);
-    keeps(&mut spool, 17 * MIB, buffer.as_mut_slice())
-}
-
-// The first seven names are taken.
-#[test]
-fn it_tries_other_names(rt: HostRuntime) {
-    assert!(rt; is_kept(&Disk::taken(&rt, 7)));
-}
-
-#[test]
-fn the_given_folder_is_taken(rt: HostRuntime) -> Result<(), Fail> {
-    let folder = spool_folder(&rt, Some("a/b"))?;
-    assert_eq!(rt; folder.as_str(), "a/b");
-    Ok(())
-}
-
-#[test]
-fn a_folder_is_known(rt: HostRuntime) {
-    assert!(rt; is_folder(&rt, "/dev"));
-    for path in ["", "/dev/null", "/dev/no such folder"] {
-        assert!(rt; !is_folder(&rt, path));
-    }
 }
