@@ -61,7 +61,7 @@ NEVER = (
     ("unpipe open verify", "Cause", f"{OF_LEDGER} {OF_JOURNAL} {OF_WITNESS}", "there is no ledger, and no journal"),
     ("ledger", "Cause", f"CannotMake {OF_JOURNAL} {OF_WITNESS}", "there is no journal and no witness"),
     ("show audit", "Cause", f"NoDigits {OF_LEDGER} {OF_JOURNAL} {OF_WITNESS}", "there is no key, no ledger, and no journal file"),
-    ("pipe", "Cause", "Input", "there is no list"),
+    ("pipe audit", "Cause", "Input", "there is no list, or - is no list: standard input is the journal"),
     ("pipe", "Cause", f"{OF_OUTPUT} OwnFile NoText", "there is no FILE with a cause"),
     ("ledger show audit", "Cause", f"{OF_OUTPUT} OwnFile TooLarge", "a FILE is only read, and can be any file"),
     ("unpipe verify", "Cause", OF_OUTPUT, "there is no output with a name"),
