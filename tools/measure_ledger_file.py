@@ -35,7 +35,8 @@ def make(path, owners):
     """A ledger file: for each device in owners, its count of ranges of one number."""
     base = sqlite3.connect(path)
     for table in tables:
-        base.execute(table)
+        # as a run writes it, on one line: else both files are opened in memory before
+        base.execute(" ".join(table.split()))
     for device, count in owners:
         base.execute("INSERT INTO mark VALUES (?, ?, ?)", (key_id, device, count))
         base.executemany("INSERT INTO taken VALUES (?, ?, ?, 1)", ((key_id, device, lo) for lo in range(count)))
