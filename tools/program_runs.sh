@@ -3250,6 +3250,24 @@ wants witness-another-device 2 '' 'witness: no line of this key and device'
 run seal --key "$key" --ledger files/moved/ledger --device 12 --witness files/w --new-witness files/f6
 wants witness-of-another-device 0 'sealed files/f6 file 0 bytes 2' ''
 is witness-two-lines test "$(sed 's/^key [0-9a-f]* \(.*\) file .*/\1/' files/w | tr '\n' ,)" = 'device 1 next 5,device 12 next 1,'
+# moved once more, it takes both lines with it
+cp -r files/moved files/again
+cp files/w files/w2
+again() { run seal --key "$key" --ledger files/again/ledger --device "$1" --witness "files/$2" "${@:3}" files/f7; rm -f files/f7.stm; }
+again 12 w2 --new-witness
+wants witness-of-two-moved 0 'sealed files/f7 file 1 bytes 2' ''
+again 1 w2
+wants witness-of-two-moved-goes-on 0 'sealed files/f7 file 5 bytes 2' ''
+# once it is lost its witness lets no other begin, of whatever device; another witness does
+rm files/again/*
+again 13 w2 --new-witness
+wants witness-of-a-lost-ledger 2 '' 'ledger: not the file its witness saw'
+again 12 w2 --no-new-ledger
+wants witness-of-no-ledger 2 '' 'ledger: not there'
+is witness-of-a-lost-ledger-nothing-made test -z "$(ls -A files/again)"
+again 13 w3 --new-witness
+wants witness-of-another-name 0 'sealed files/f7 file 0 bytes 2' ''
+rm -r files/again files/w2 files/w3
 grep ' device 12 ' files/w > files/w12
 run seal --key "$key" --ledger files/moved/ledger --device 1 --witness files/w12 files/f7
 wants witness-of-device-12-alone 2 '' 'witness: no line of this key and device'
@@ -3389,6 +3407,25 @@ cause: it is gone or empty, or was copied, restored, moved or made anew'
     is witness-of-an-exchanged-ledger-as-it-was cmp -s files/real files/good
     mv files/true/aside files/moved/ledger
     cat files/true/log > files/moved/ledger-wal
+    # so is the witness: what is there by then stays, or is missing as before
+    exchanged() { # NAME CAUSE COMMAND.., which exchanges it
+        strace -f -qq -o /dev/null -e trace=unlink -e inject=unlink:delay_enter=3000000:when=1 "$sealer" seal --key files/key \
+            --ledger files/moved/ledger --device 1 --verbose --witness files/w files/f8 > out 2> err &
+        one=$!
+        for _ in $(seq 100); do ls files/real.*.try > /dev/null 2>&1 && break; sleep 0.05; done
+        "${@:3}"
+        wait "$one"; status=$?
+        wants "witness-exchanged: $1" 2 '' "witness: write failed
+cause: $2"
+    }
+    exchanged removed 'there is no such file' rm files/real
+    is witness-exchanged-is-not-made-anew test ! -e files/real
+    for change in 's/next [0-9]*/next 4294967296/' 's/file [0-9]* [0-9]*/file 1 1/'; do
+        cp files/good files/real
+        exchanged "$change" 'it is gone or empty, or was copied, restored, moved or made anew' sed -i "$change" files/real
+        is "witness-exchanged-stays: $change" test "$(cat files/real)" = "$(sed "$change" files/good)"
+    done
+    cp files/good files/real
     # a run that is killed as it renews the witness leaves a file, which is in nobody's way
     mkdir files/pair
     pair() { run seal --key "$key" --ledger files/pair/ledger --device "$1" --witness files/pair/w "${@:2}"; }
