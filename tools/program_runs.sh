@@ -3091,9 +3091,11 @@ cause: the database is damaged or was altered, or memory was refused'
     # a witness is renamed only once its bytes are on the disk, and then its name is
     run seal --key mixed/key --ledger mixed/new --device 1 --witness mixed/witness --new-witness mixed/d
     rm mixed/d.stm
-    strace -f -y -o calls -e trace=rename,fsync "$sealer" seal --key mixed/key --ledger mixed/new --device 1 --witness mixed/witness mixed/d > out 2> err
+    strace -f -y -o calls -e trace=openat,rename,fsync "$sealer" seal --key mixed/key --ledger mixed/new --device 1 --witness mixed/witness mixed/d > out 2> err
     is the-witness-is-on-the-disk test "$(sed -n 's/.* fsync([0-9]*<.*witness[^>]*new>).*/bytes/p; s/.* rename(.*/name/p; s/.* fsync([0-9]*<.*mixed>).*/folder/p' calls |
         sed -n '/bytes/,$p' | tr '\n' ' ')" = 'bytes name folder '
+    # each file beside it is made under a name that nobody has
+    is the-files-beside-a-witness-are-new test "$(grep -cE '/witness\.[0-9a-f]{16}\.(try|new)", O_WRONLY\|O_CREAT\|O_EXCL' calls)" = 2
     rm -r mixed
 fi
 
