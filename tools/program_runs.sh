@@ -3027,6 +3027,11 @@ cause: memory was refused'
     is long-ledger-stays test "$(cksum < files/long)" = "$sum" -a ! -e files/f3.stm
     run ledger --ledger files/long
     is long-ledger-in-enough-memory grep -q ' device 1 ranges 438001 given 438001 ' out
+    # the look at its tables reads the beginning, and the database has reads of its own kind
+    if command -v strace > /dev/null; then
+        strace -f -qq -o calls -P "$PWD/files/long" -e trace=read "$sealer" seal --key files/key --ledger files/long --no-new-ledger --device 1 files/f3 > out 2> err
+        is long-ledger-is-read-once test "$(sed 's/.* = //' calls | awk '{ bytes += $1 } END { print bytes }')" = 65536
+    fi
     rm files/long*
 fi
 
