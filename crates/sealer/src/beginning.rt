@@ -28,8 +28,12 @@ pub(crate) struct Beginning<'a> {
     pub(crate) key: &'a str,
     /// The path of its ledger file, which no journal may be.
     pub(crate) ledger: &'a str,
-    /// Where its journal is made.
-    pub(crate) journal: JournalPlace<'a>,
+    /// The path of its journal, if one is given.
+    pub(crate) journal: Option<&'a str>,
+    /// The folder in which its journal is made, if there is no such path.
+    pub(crate) folder: Option<&'a str>,
+    /// The device that the name of a journal in a folder has.
+    pub(crate) device: Device,
 }
 
 /// Begins a run that seals: reads the key file, and creates the journal. A fault is printed, with `causes` its cause too,
@@ -45,7 +49,8 @@ pub(crate) fn begin<R: Files + AllocGlobal + Clock + Eprint>(
         Ok(key) => key,
         Err(status) => return Err(status),
     };
-    match new_journal(rt, asked.journal, asked.ledger) {
+    let place = journal_place(asked.journal, asked.folder, asked.device);
+    match new_journal(rt, place, asked.ledger) {
         Ok((journal, path)) => Ok(Begun { key, journal, path }),
         Err(fault) => {
             let about = About::Known(fault.cause());
@@ -54,8 +59,8 @@ pub(crate) fn begin<R: Files + AllocGlobal + Clock + Eprint>(
     }
 }
 
-/// Returns where the journal is made: at this path, or in this folder for this device.
-pub(crate) fn journal_place<'a>(
+// Where the journal is made: at this path, or in this folder for this device.
+fn journal_place<'a>(
     path: Option<&'a str>,
     folder: Option<&'a str>,
     device: Device,

@@ -17,8 +17,8 @@ ghost use Rattle.sealer_core.specs.Sealing.{FoldsFiles, IsWritten, ReservesFiles
 ghost use Rattle.sealer.specs.Status.{IsOfPiping, IsStatusOf};
 
 use crate::beginning::{
-    Beginning, Begun, Refusal, begin, comes_again, journal_path, journal_place, ledger_of, look,
-    refuse, tell_unrecorded, witness_asked,
+    Beginning, Begun, Refusal, begin, comes_again, journal_path, ledger_of, look, refuse,
+    tell_unrecorded, witness_asked,
 };
 use crate::{Streams, complain};
 use clap::ArgMatches;
@@ -86,7 +86,9 @@ fn pipe_to<
     let asked = Beginning {
         key: request.key,
         ledger: request.ledger,
-        journal: journal_place(request.journal, request.journal_in, request.device),
+        journal: request.journal,
+        folder: request.journal_in,
+        device: request.device,
     };
     let Begun { key, journal, path } = match begin(rt, asked, causes) {
         Ok(begun) => begun,

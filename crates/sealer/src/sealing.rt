@@ -16,8 +16,8 @@ ghost use Rattle.sealer_core.specs.Sealing.{FoldsFiles, Happened, HasSealed, IsO
 ghost use Rattle.sealer.specs.Status.{IsOfCommand, IsStatusOf, IsStatusOver};
 
 use crate::beginning::{
-    Beginning, Begun, Refusal, begin, comes_again, journal_place, ledger_of, look, refuse,
-    tell_unrecorded, witness_asked,
+    Beginning, Begun, Refusal, begin, comes_again, ledger_of, look, refuse, tell_unrecorded,
+    witness_asked,
 };
 use crate::files::{clear, outs_of, progress_of, streams_of};
 use crate::kept::{destination_of, worked_of};
@@ -126,7 +126,9 @@ fn seal_to<
     let asked = Beginning {
         key: request.key,
         ledger: request.ledger,
-        journal: journal_place(request.journal, request.journal_in, request.device),
+        journal: request.journal,
+        folder: request.journal_in,
+        device: request.device,
     };
     let Begun { key, journal, path } = match begin(rt, asked, causes) {
         Ok(begun) => begun,
