@@ -4152,7 +4152,7 @@ wants against-nothing 1 'good year/b\c/5.stm bytes 10
 not listed year/b\c/5.stm' ''
 printf 'sealed year/5 file 4 bytes 10\nsealed \xff file 1 bytes 1\nkept year/9\nfailed year/8: cannot open\nsealed year/5 file 99999999999 bytes 1\nsealed year/5 file 5 bytes 10' > year/lines
 against year/5.stm
-wants against-last-line 0 'good year/5.stm bytes 10' ''
+wants against-last-line 0 'good year/5.stm bytes 10' 'warning: lines of year/lines passed over: 2'
 run verify --key "$key" --against year/none year/5.stm
 wants against-no-file 2 '' 'against: cannot open'
 run verify --key "$key" --against year year/5.stm
@@ -4161,7 +4161,7 @@ run verify --key "$key" --verbose --against year/none year/5.stm
 wants against-cause 2 '' 'against: cannot open
 cause: there is no such file'
 "$sealer" verify --key "$key" --against year/lines year/1.stm > /dev/full 2> err; status=$?; : > out
-wants against-full 2 '' ''
+wants against-full 2 '' 'warning: lines of year/lines passed over: 2'
 
 # Three chunks and more, sealed by Python's `cryptography`, if it is installed.
 if has cryptography; then
