@@ -4,7 +4,7 @@ use path_core::{quote, unquote};
 use std::alloc::{AllocError, Global};
 
 // Names, with what a line shows of each.
-static SHOWN: [(&[u8], &str); 17] = [
+static SHOWN: [(&[u8], &str); 18] = [
     (b"", ""),
     (b"a file.stm", "a file.stm"),
     (b"-", "-"),
@@ -19,20 +19,25 @@ static SHOWN: [(&[u8], &str); 17] = [
         b"\xc2\x80\xc2\x9f\xc2\xa0\xc3\xa9",
         "\\u{80}\\u{9f}\u{a0}\u{e9}",
     ),
-    // U+200E, U+200F, and U+200D, which stays.
+    // U+061C, U+FEFF, and U+061B and U+FEFE, which stay.
     (
-        b"\xe2\x80\x8e\xe2\x80\x8f\xe2\x80\x8d",
-        "\\u{200e}\\u{200f}\u{200d}",
+        b"\xd8\x9c\xef\xbb\xbf\xd8\x9b\xef\xbb\xbe",
+        "\\u{61c}\\u{feff}\u{61b}\u{fefe}",
+    ),
+    // U+200B, U+200F, and U+200A and U+2010, which stay.
+    (
+        b"\xe2\x80\x8b\xe2\x80\x8f\xe2\x80\x8a\xe2\x80\x90",
+        "\\u{200b}\\u{200f}\u{200a}\u{2010}",
     ),
     // U+2028, U+202E, and U+2027 and U+202F, which stay.
     (
         b"\xe2\x80\xa8\xe2\x80\xae\xe2\x80\xa7\xe2\x80\xaf",
         "\\u{2028}\\u{202e}\u{2027}\u{202f}",
     ),
-    // U+2066, U+2069, and U+2065, which stays.
+    // U+2060, U+2069, and U+205F and U+206A, which stay.
     (
-        b"\xe2\x81\xa6\xe2\x81\xa9\xe2\x81\xa5",
-        "\\u{2066}\\u{2069}\u{2065}",
+        b"\xe2\x81\xa0\xe2\x81\xa9\xe2\x81\x9f\xe2\x81\xaa",
+        "\\u{2060}\\u{2069}\u{205f}\u{206a}",
     ),
     (b"\xff", "\\xff"),
     (b"caf\xe9.stm", "caf\\xe9.stm"),
