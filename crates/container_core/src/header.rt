@@ -1,4 +1,4 @@
-//! The header of a container: 24 bytes, and in version 2 a label after them.
+//! The header of a container: 24 bytes, and in version 2 the label's length and a label after them.
 //!
 //! | bytes | content |
 //! |---|---|

@@ -1,5 +1,5 @@
 //! Sealed containers: a header, then the chunks of a plaintext, sealed as in STREAM over the AEAD of RFC 8439. The
-//! header has 24 bytes; in version 2 a label follows them.
+//! header has 24 bytes; in version 2 the label's length and a label follow them.
 //!
 //! `specs/` has the format: `chunks` of a plaintext, `stream` of a list of chunks, `container` of a key, a shape, a
 //! prefix and a plaintext. `opening` is the first fault of any bytes, or their plaintext.

@@ -1,6 +1,6 @@
-//! A whole container in memory. `begin` reads the header and the cut of any bytes, or returns their first fault.
-//! `begin_within` does so from the header alone and the number of bytes. `seal_into` and `open_into` seal and open the
-//! chunks into room that the caller provides. `seal` and `open` allocate this room, and call them.
+//! A whole container in memory. `begin` reads the header and the cut of any bytes, or returns the first fault that shows
+//! before a chunk is opened. `begin_within` does so from the header alone and the number of bytes. `seal_into` and
+//! `open_into` seal and open the chunks into room that the caller provides. `seal` and `open` allocate it, and call them.
 //!
 //! The room for the whole is the only allocation, made before the first chunk is touched. So no result about a chunk
 //! is that memory was refused.

@@ -84,7 +84,7 @@ pub fn a_closed_connection_passes_on_what_it_found<D: Disk + Drop>()
         → outcomes D.Disk left.log left.db later → PassesOn files later × PassesOn files (record later { log = [] }) }
 {}
 
-/// A run passes on what it found, whenever it is killed after its opening.
+/// A run passes on what it found, if it is killed at any time once its keeper is made.
 pub fn a_run_passes_on_what_it_found<D: Disk + Drop>()
     ensures { (files later : Image) (keeper last : _) → IsFound (over_files {g = D.Disk}) files keeper
         → StillLast over_files keeper last → HasCleanDisk (file_state {g = D.Disk} last)

@@ -4,7 +4,6 @@
 //! A `Round` makes each of its pieces by its number. A `Bench` is the room in which one worker makes pieces, in any
 //! order. `Places` takes the pieces of all benches, each into its place. So the result doesn't depend on who made which
 //! piece, or when.
-//! there who made which piece, or when.
 #![tactic(auto)]
 
 mod append;
