@@ -335,7 +335,11 @@ fn read_witness<R: Files + AllocGlobal>(rt: &R, path: &str) -> Result<Vec<u8>, W
 // Writes a new file with mode, owner and group of the witness, syncs it, and gives it the witness's name. Then the folder
 // is synced.
 fn replace(host: &HostRuntime, path: &str, begun: u64, text: &[u8]) -> Result<(), WitnessFault> {
-    let old = fs::metadata(host, path).ok();
+    let old = match fs::metadata(host, path) {
+        Ok(found) => Some(found),
+        Err(error) if error.kind() == ErrorKind::NotFound => None,
+        Err(error) => return Err(WitnessFault::CannotCreate(error.kind())),
+    };
     let mode = match &old {
         Some(found) => found.mode() & 0o777,
         None => SHARED,
