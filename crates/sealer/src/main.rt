@@ -42,7 +42,7 @@ use command_line::{
     Naming, Reading, asks_for_processors, borrowed, command, naming_asked, verbose_asked, write_out,
 };
 use ledger_core::ToWrite;
-use std::alloc::Global;
+use std::alloc::{AllocError, Global};
 use std::fmt::Display;
 use std::io::{IsTerminal, Read, Write};
 use std::process::ExitCode;
@@ -57,7 +57,11 @@ use system_ledger::LedgerFault;
 /// program's own reading and writing.
 pub(crate) const FAULT: u8 = 2;
 
+/// The bytes of the block that `keep_freed_memory` frees. With what the C library adds, it must have at most 32 MiB.
+const FREED: usize = (1 << 25) - (1 << 16);
+
 fn main(rt: HostRuntime) -> ExitCode {
+    keep_freed_memory(rt.alloc());
     let _streams = stand_ins(&rt);
     let Some(words) = words_of(&rt) else {
         return ExitCode::from(FAULT);
@@ -67,6 +71,20 @@ fn main(rt: HostRuntime) -> ExitCode {
         Err(error) => told(&rt, &error),
     };
     ExitCode::from(status)
+}
+
+/// Has the C library keep freed memory for the buffers of the next file, which are then in memory that the system has
+/// given and cleared before. Once a block was freed, the C library takes smaller ones from its heap, and gives the
+/// system none of this below twice the block's size (mallopt(3), `M_MMAP_THRESHOLD`). Nobody touches the block. If it is
+/// refused nothing changes.
+fn keep_freed_memory(alloc: Global) {
+    let _ = untouched(alloc);
+}
+
+// Not inlined: the compiler would leave out a block that isn't used.
+#[inline(never)]
+fn untouched(alloc: Global) -> Result<Vec<u8>, AllocError> {
+    Vec::with_capacity(alloc, FREED)
 }
 
 /// Runs the command that was asked for over the standard streams, on which it prints in the style asked for. Returns the
