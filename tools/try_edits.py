@@ -9,8 +9,8 @@ this machine did. They have a line each in docs/edits.txt:
 
 OWN is a sum of the edit, of its crate's sources and line in crates.txt, and of the kit; BELOW of what the crate sees of those below it: their
 specs/ and the heads of their public items (not the lemmas that its proofs cite: these change at most which goal refuses it). Without a word the
-lines are checked, in seconds: an edit without a line, a line without an edit, a stale OWN or a DAY to come fails. Where BELOW alone is stale the
-edit waits for its turn since DAY. An edit that was only moved here has a line without sums, `- - untried`, and waits too.
+lines are checked, in seconds: an edit without a line, a line without an edit, a stale OWN, a DAY to come, or a text to replace that isn't once in
+its file fails. Where BELOW alone is stale the edit waits for its turn since DAY. An edit that was only moved here has a line without sums, `- - untried`, and waits too.
 
 NAME.. (CRATE or CRATE/EDIT) tries these edits, or `stale` all whose lines are absent or stale, and writes their lines. --turn, for the gate, also
 tries eight edits of one crate, among those that have waited longest: an edit that isn't refused, or a line that says something else, fails.
@@ -162,6 +162,22 @@ def stale(edits, record):
     return bad, waits
 
 
+def unplaced(crate, file):
+    """The texts of an edit that aren't once in the file that it names."""
+    source, text, found = None, "", []
+    for line in file.read_text(encoding="utf-8").splitlines():
+        word, _, rest = line.partition(": ")
+        if word == "file":
+            source = TOP / "crates" / crate / rest.strip()
+            text = source.read_text(encoding="utf-8") if source.exists() else ""
+        elif word == "old":
+            replaced = rest
+            found += [rest] if text.count(rest) != 1 else []
+        elif word == "new":
+            text = text.replace(replaced, rest, 1)
+    return found
+
+
 def turn_of(edits, record, waits):
     """The edits whose turn it is, of one crate: those whose lines are oldest, and among equals by the count of commits."""
     oldest = min(record[name][0] for name in waits or edits.sums)
@@ -192,6 +208,7 @@ def main(words):
     else:
         failed += [f"{name}: no line, or one of other sources: try it by tools/try_edits.py {name}" for name in bad]
         failed += [f"{name}: a line without an edit" for name in record if name not in edits.sums]
+        failed += [f"{name}: not once in its file: {text}" for name, file in edits.files.items() for text in unplaced(name.split("/")[0], file)]
         failed += [f"{name}: {line[0]} is still to come" for name, line in record.items() if line[0] > today]
         since = f" since {min(record[it][0] for it in waits)}" if waits else ""
         print(f"edits: {len(edits.sums)}, of which {len(edits.sums) - len(bad)} have a line, and {len(waits)} wait for their turn{since}")
