@@ -35,7 +35,7 @@ complete -c sealer -n '__sealer_command seal pipe unpipe open verify' -l verbose
 complete -c sealer -n '__sealer_command seal open verify show audit ledger' -l files-from -rF -d 'Read further FILEs from a list, one a line, after those of the command line'
 complete -c sealer -n '__sealer_command seal open verify show audit ledger' -l null -d 'FILEs in the list of --files-from end with a NUL byte, not a line feed'
 complete -c sealer -n '__sealer_command seal open verify show audit ledger' -l quote -d 'Print names with escapes for backslashes, control characters and marks of direction, so that no name adds a line'
-complete -c sealer -n '__sealer_command seal open verify show audit ledger' -l keep-going -d 'A name that cannot be used (of the list: empty or not UTF-8) is a FILE that failed, not a fault of usage'
+complete -c sealer -n '__sealer_command seal open verify show audit ledger' -l keep-going -d 'Some names that cannot be used (of the list: empty or not UTF-8) are FILEs that failed, not faults of usage'
 
 complete -c sealer -n '__sealer_command seal unpipe open verify' -l progress -a 'terminal always' -d 'Show progress on standard error if that is a terminal, or always'
 
@@ -43,7 +43,7 @@ complete -c sealer -n '__sealer_command seal open' -l into -xa '(__fish_complete
 complete -c sealer -n '__sealer_command seal open' -l parents -d "Keep the folders of each FILE's path below the folder of --into, and make them as needed"
 complete -c sealer -n '__sealer_command seal open' -l skip-existing -d "Skip each FILE if a regular file has its output's name: its line says kept, not failed"
 complete -c sealer -n '__sealer_command seal open' -l sync -d 'Sync each output and its folder before its line is printed'
-complete -c sealer -n '__sealer_command seal open' -l private -d 'Create each output with the mode 0600: for its owner only'
+complete -c sealer -n '__sealer_command seal open' -l private -d 'Create each output with the mode 0600 at most: for its owner only'
 
 complete -c sealer -n '__sealer_command open verify' -l max-bytes -x -a 'max' -d 'Refuse a FILE of more plaintext bytes, 0 to 4503599626321920, or max'
 
@@ -54,7 +54,7 @@ complete -c sealer -n '__sealer_command unpipe' -l spool -xa '(__fish_complete_d
 
 complete -c sealer -n '__sealer_command open' -l to -rF -d 'Write the plaintext to NAME'
 
-complete -c sealer -n '__sealer_command seal pipe unpipe open verify show audit ledger' -l json -d 'Print a JSON object in place of each line, and one with the totals at the end'
+complete -c sealer -n '__sealer_command seal pipe unpipe open verify show audit ledger' -l json -d 'Print a JSON object in place of each line'
 
 complete -c sealer -n '__sealer_command seal open verify' -l quiet -d 'Leave out the lines of FILEs that are well'
 

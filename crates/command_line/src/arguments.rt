@@ -34,24 +34,24 @@ take a new device number or a new key: else two files can get one number, and ne
 /// The end of the help of `pipe`.
 const PIPE_HELP: &str =
     "Standard input is sealed as it comes, in the memory of --depth chunks, and its container written
-to standard output. Prints one line on standard error. Exit status: 0 if the stream was sealed, 1 if
-not, and then the output is truncated, 2 if standard error says why. unpipe opens the container, and
-open too, like a FILE.stm.
+to standard output. Prints its line on standard error. Exit status: 0 if the stream was sealed, 1 if
+not, and then the output is truncated, 2 if standard error says why, or the line could not be
+written. unpipe opens the container, and open too, like a FILE.stm.
 
 As for seal: never use a copy of a ledger file, nor a restored one.";
 
 /// The end of the help of `unpipe`.
 const UNPIPE_HELP: &str =
     "Plaintext is written only after every chunk was checked. FILE is read twice, if it is a regular
-file. Prints one line on standard error. Exit status: 0 if all plaintext was written, 1 if not, 2 if
-standard error says why.";
+file. Prints its line on standard error. Exit status: 0 if all plaintext was written, 1 if not, 2 if
+standard error says why, or the line could not be written.";
 
 /// The end of the help of `show`.
 const SHOW_HELP: &str =
     "Prints a line for each FILE: version, chunk size, the first bytes of its key's SHA-256, device,
-number, plaintext bytes by its length, label. No key is needed, and the rest of FILE is not read. So
-anybody can have written what is shown; verify checks it. Exit status: 0 if none failed, 1 if some
-did, 2 if standard error says why, or a line could not be written.";
+number, plaintext bytes by its length, label. No key is needed; at most 280 bytes of FILE are read.
+So anybody can have written what is shown; verify checks it. Exit status: 0 if none failed, 1 if
+some did, 2 if standard error says why, or a line could not be written.";
 
 /// The end of the help of `audit`.
 const AUDIT_HELP: &str =

@@ -37,7 +37,7 @@ pub(crate) static FILE_ROWS: [Row; 4] = [
         name: "files-from",
         takes: Takes::Path { is_required: false },
         help: "Read further FILEs from a list, one a line, after those of the command\n\
-            line; - is standard input",
+            line; - is standard input (not of audit)",
     },
     Row {
         name: "null",
@@ -53,8 +53,8 @@ pub(crate) static FILE_ROWS: [Row; 4] = [
     Row {
         name: "keep-going",
         takes: Takes::Nothing,
-        help: "A name that cannot be used (of the list: empty or not UTF-8) is a FILE\n\
-            that failed, not a fault of usage; implies --quote",
+        help: "Some names that cannot be used (of the list: empty or not UTF-8) are\n\
+            FILEs that failed, not faults of usage; implies --quote",
     },
 ];
 
@@ -97,7 +97,7 @@ pub(crate) static OUTPUT_ROWS: [Row; 5] = [
     Row {
         name: "private",
         takes: Takes::Nothing,
-        help: "Create each output with the mode 0600: for its owner only",
+        help: "Create each output with the mode 0600 at most: for its owner only",
     },
 ];
 
@@ -151,7 +151,7 @@ pub(crate) static TO_ROWS: [Row; 2] = [
     Row {
         name: "FILE",
         takes: Takes::FilesUnless("files-from"),
-        help: "The files; their lines are printed in this order; - is standard input, and needs --to",
+        help: "The files; their lines have this order, those kept first; - (standard input) needs --to",
     },
     Row {
         name: "to",
@@ -165,8 +165,8 @@ pub(crate) static TO_ROWS: [Row; 2] = [
 pub(crate) static JSON_ROWS: [Row; 1] = [Row {
     name: "json",
     takes: Takes::Nothing,
-    help: "Print a JSON object in place of each line, and one with the totals at the\n\
-        end",
+    help: "Print a JSON object in place of each line; unless the status is 2, a last\n\
+        one has the totals",
 }];
 
 /// What every command over files takes in addition, to print less.
@@ -174,7 +174,7 @@ pub(crate) static QUIET_ROWS: [Row; 1] = [Row {
     name: "quiet",
     takes: Takes::Nothing,
     help: "Leave out the lines of FILEs that are well; print a last one with the\n\
-        totals",
+        totals, unless the status is 2",
 }];
 
 /// What only `verify` takes in addition to these.
@@ -305,7 +305,7 @@ pub(crate) static SEAL_ROWS: [Row; 4] = [
     Row {
         name: "FILE",
         takes: Takes::FilesUnless("files-from"),
-        help: "The files; their lines are printed in this order",
+        help: "The files; their lines are printed in this order, those kept first",
     },
     Row {
         name: "max-bytes",
@@ -335,7 +335,7 @@ pub(crate) static SEAL_ROWS: [Row; 4] = [
             absent: Absent::Nothing,
         },
         help: "Chunks sealed at a time, 1 to 256; if not given, those of 1 MiB, with one\n\
-            worker 16 at most; no effect with several lanes",
+            worker at most 16, else at least one each; no effect with several lanes",
     },
 ];
 
