@@ -735,11 +735,72 @@ sealed files/b file 1 bytes 1492' ''
     head -c 262144 /dev/zero > files/e
     started --workers 4 files/e
     is workers-of-a-file test "$status $(grep -c 'clone3\?(' calls)" = '0 3'
+    # The memory of one file serves the next: the system isn't asked for more, or given some back, for each file (threads have stacks besides).
+    fresh
+    for at in 1 2 3 4 5 6 7 8; do head -c 3000000 /dev/zero > "files/f$at"; done
+    asks() { strace -f -e trace=mmap,munmap,mremap,brk,madvise -o calls "$sealer" "$@" > out 2> err && grep -c '^[0-9]' calls; }
+    few() { # NAME SUFFIX WORDS: eight files ask the system hardly more often than four
+        local four
+        four=$(asks "${@:3}" files/f[1-4]"$2")
+        [ -n "$2" ] || rm files/*.stm
+        rm -f files/open/*
+        is "$1" test "$(asks "${@:3}" files/f[1-8]"$2")" -le $((four + 4))
+    }
+    few memory-is-kept '' seal --key "$key" --ledger files/l --device 1
+    rm files/*.stm
+    few memory-is-kept-by-lanes '' seal --key "$key" --ledger files/l --device 1 --lanes 4
+    mkdir files/open
+    few memory-is-kept-by-verify .stm verify --key "$key"
+    few memory-is-kept-by-open .stm open --key "$key" --into files/open
     fresh
 elif [ -n "${CI:-}" ]; then
     bad=1
     echo 'strace is missing'
 fi
+# Files in turn, by each engine: a longer one before shorter ones, and before these one that fails once some MB of it were read.
+fresh
+head -c 3000000 /dev/zero | tr '\0' 'L' > files/long
+head -c 70000 /dev/zero | tr '\0' 'm' > files/middle
+echo short > files/short
+: > files/none
+mkfifo files/endless
+mkdir files/kept
+for words in '--workers 1' '--workers 4' '--lanes 2' '--lanes 8'; do
+    rm -f files/*.stm files/l*-wal files/l
+    head -c 6000000 /dev/zero > files/endless &
+    run seal --key "$key" --ledger files/l --device 1 --max-bytes 5000000 $words files/long files/endless files/middle files/short files/none
+    wait
+    unnumbered
+    wants "files-in-turn $words" 1 'sealed files/long bytes 3000000
+failed files/endless: too long
+sealed files/middle bytes 70000
+sealed files/short bytes 6
+sealed files/none bytes 0' ''
+    for name in long middle short none; do mv "files/$name" files/kept; done
+    # a bad chunk far into a container of its own, between good ones
+    cp files/long.stm files/bad.stm
+    printf x | dd of=files/bad.stm bs=1 seek=2500000 conv=notrunc status=none
+    for workers in 1 4; do
+        run verify --key "$key" --workers $workers files/long.stm files/bad.stm files/middle.stm files/short.stm files/none.stm
+        wants "verified-in-turn $words, $workers" 1 'good files/long.stm bytes 3000000
+failed files/bad.stm: chunk 38 does not check
+good files/middle.stm bytes 70000
+good files/short.stm bytes 6
+good files/none.stm bytes 0' ''
+        run open --key "$key" --workers $workers files/long.stm files/bad.stm files/middle.stm files/short.stm files/none.stm
+        wants "opened-in-turn $words, $workers" 1 'opened files/long.stm bytes 3000000
+failed files/bad.stm: chunk 38 does not check
+opened files/middle.stm bytes 70000
+opened files/short.stm bytes 6
+opened files/none.stm bytes 0' ''
+        for name in long middle short none; do
+            is "opened-in-turn-is-what-was-sealed $words, $workers, $name" cmp -s "files/$name" "files/kept/$name"
+            rm "files/$name"
+        done
+    done
+    mv files/kept/* files
+done
+fresh
 for lanes in 1 2; do
     cp numbers.plain files/a
     cp numbers.plain files/b
