@@ -3,7 +3,8 @@
 
 FOLDER: an empty folder, best in memory-backed storage, with 6 times MIB free. There are MIB (512) MiB of files for each SIZE, in KiB (64,
 1024, 4096, 16384), and 10,000 files of 4 KiB. Everything is timed in turn, ROUNDS (3) times over, and the least counts: wall seconds, and the
-page faults of that run in thousands. Then it prints each as a part of the time of one worker. PROGRAM is crates/sealer/out/sealer by default.
+page faults of that run in thousands. Then it prints each as a part of the time of one worker, and what reading and writing these files in turn
+takes alone, in one thread: what a group's lanes can't share. PROGRAM is crates/sealer/out/sealer by default.
 """
 import argparse
 import os
@@ -22,6 +23,8 @@ asked.add_argument("folder", type=Path)
 asked.add_argument("program", nargs="?", default=Path(__file__).resolve().parent.parent / "crates/sealer/out/sealer")
 asked = asked.parse_args()
 SMALL, MANY = 4, 10_000
+# How many bytes are read and written at a time where only that is timed.
+PIECE = 1 << 16
 os.chdir(asked.folder)
 Path("key").write_text("5a" * 32 + "\n", encoding="ascii")
 
@@ -58,6 +61,25 @@ def unsealed(folder):
         file.unlink()
 
 
+def read_and_written(folder):
+    """The wall seconds that reading all files takes in one thread, and that writing as many bytes to new files does."""
+    shutil.rmtree("copies", ignore_errors=True)
+    os.mkdir("copies")
+    room, took = bytearray(PIECE), [0.0, 0.0]
+    for file in sorted(folder.glob("f?????")):
+        start = time.monotonic()
+        with open(file, "rb", buffering=0) as source:
+            pieces = []
+            while count := source.readinto(room):
+                pieces.append(count)
+        middle = time.monotonic()
+        with open(f"copies/{file.name}", "xb", buffering=0) as target:
+            for count in pieces:
+                target.write(memoryview(room)[:count])
+        took = [took[0] + middle - start, took[1] + time.monotonic() - middle]
+    return took
+
+
 def measured(size, count):
     """Measures the files of one size, and prints a row for each command."""
     folder = made(size, count)
@@ -78,6 +100,8 @@ def measured(size, count):
     for name in works:
         one = best.get(f"{name.split()[0]} --workers 1", best["cp -r"])[0]
         print(f"{count:6} of {size:6} KiB  {name:20} {best[name][0]:7.3f} s  {best[name][0] / one:5.2f} of one worker  {best[name][1]:7.1f} k faults", flush=True)
+    parts = [min(it) for it in zip(*(read_and_written(folder) for _ in range(asked.rounds)))]
+    print(f"{count:6} of {size:6} KiB  read in turn {parts[0]:.3f} s, written in turn {parts[1]:.3f} s")
     copies()
     shutil.rmtree(folder)
 

@@ -14,7 +14,7 @@ ghost use Rattle.command_core.specs.Work.{reading_failed};
 use crate::facts::Facts;
 use crate::folder::{Folder, FolderFault, OpeningFolder, write_again_or_give_up, write_or_give_up};
 use crate::line::{FileFault, FileOutcome, Line};
-use crate::reading::{check_labelled, read_labelled};
+use crate::reading::{check_labelled, read_labelled, workers_for};
 use crate::report::Report;
 use container_core::{Key, MAX_OPENED, MAX_PLAIN, OpenFault};
 use gate_core::MAX_WORKERS;
@@ -131,7 +131,8 @@ fn open_again<T: Threads + Sync, F: OpeningFolder>(
     ensures count { IsCounted (F.told folder.new) (F.Reader.failures reader.new)
         (counted (reading_failed result) (F.Reader.failures reader.old)) }
 {
-    let (most, workers) = (options.max_bytes, options.workers);
+    let most = options.max_bytes;
+    let workers = workers_for(folder.length(reader), options.workers);
     let header = match check_labelled(rt, alloc, key, reader, most, workers, options.label) {
         Ok((header, _)) => header,
         Err(fault) => return FileOutcome::Failed(fault),
@@ -264,7 +265,8 @@ fn verify_file<T: Threads + Sync, F: Folder>(
     let Ok(mut reader) = folder.open(name) else {
         return FileOutcome::Failed(FileFault::CannotOpen);
     };
-    let (most, workers) = (options.max_bytes, options.workers);
+    let most = options.max_bytes;
+    let workers = workers_for(folder.length(&reader), options.workers);
     let checked = check_labelled(rt, alloc, key, &mut reader, most, workers, options.label);
     folder.close(name, reader);
     match checked {

@@ -15,6 +15,22 @@ use opening_core::{Plaintext, run_check, run_read};
 use std::alloc::Global;
 use std::thread::Threads;
 
+// For how many bytes of a file a worker more is started: it checks about as many in the time that its thread's start takes.
+const SHARE: u64 = 1 << 19;
+
+/// Returns how many of `workers` workers a file is worth: one for each 512 KiB, and at least one. All of them if the
+/// file's length isn't known.
+pub(crate) fn workers_for(bytes: Option<u64>, workers: u32) -> u32
+    requires { 0 < workers }
+    ensures some { 0 < result }
+    ensures most { result ≤ workers }
+{
+    match bytes {
+        Some(bytes) => (bytes / SHARE).max(1).min(u64::from(workers)) as u32,
+        None => workers,
+    }
+}
+
 /// Checks the whole container that a reader gives, and its label. Returns its header, and its number of plaintext bytes.
 pub(crate) fn check_labelled<T: Threads + Sync, R: Source>(
     rt: &T,

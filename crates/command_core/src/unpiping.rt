@@ -9,7 +9,7 @@ ghost use Rattle.command_core.specs.Work.{AreTold, reading_failed};
 use crate::commands::{MAX_OPENED_BYTES, fault_again, tell};
 use crate::folder::Folder;
 use crate::line::{FileFault, FileOutcome};
-use crate::reading::check_labelled;
+use crate::reading::{check_labelled, workers_for};
 use crate::report::Report;
 use container_core::{Header, Key};
 use gate_core::{Free, MAX_WORKERS};
@@ -90,7 +90,8 @@ fn unpipe_read<T: Threads + Sync, F: Folder, W: OpeningStream + Drop>(
     ensures count { IsCounted (F.told folder.new) (F.Reader.failures reader.new)
         (counted (reading_failed result.0) (F.Reader.failures reader.old)) }
 {
-    let (most, workers) = (options.max_bytes, options.workers);
+    let most = options.max_bytes;
+    let workers = workers_for(folder.length(reader), options.workers);
     let header = match check_labelled(rt, alloc, key, reader, most, workers, options.label) {
         Ok((header, _)) => header,
         Err(fault) => return (FileOutcome::Failed(fault), stream),
