@@ -3759,6 +3759,14 @@ sealing log-of-no-ledger 'ledger: cannot open' 'LEDGER-wal is there and LEDGER i
 caused ledger-log-alone 'ledger: cannot open' 'LEDGER-wal is there and LEDGER is not: do not delete it' ledger --verbose --ledger files/l
 : > files/l
 sealing log-of-an-empty-ledger 'ledger: cannot open' 'LEDGER is empty and LEDGER-wal is not: do not delete them' files/l
+rm files/l-wal
+# a FIFO has no bytes either: nobody waits for a writer
+mkfifo files/l-wal
+timeout 60 "$sealer" seal --verbose --key files/key --device 1 --ledger files/l files/numbers.stm > out 2> err; status=$?
+wants 'cause: fifo-as-log' 2 '' 'ledger: cannot open
+cause: LEDGER-wal is no regular file, has more than one name, or gives no permission'
+timeout 60 "$sealer" ledger --ledger files/l > out 2> err; status=$?
+wants fifo-as-log-read 2 '' 'ledger: cannot open'
 rm files/l files/l-wal
 cp numbers.plain files/a
 run seal --key files/key --ledger files/l --device 1 --verbose files/a

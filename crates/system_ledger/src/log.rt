@@ -28,6 +28,10 @@ pub(crate) fn log_is_begun<R: Files + AllocGlobal>(
         None => Ok(true),
         Some(bytes) if bytes > WITHOUT_PAGE as u64 => Ok(false),
         Some(_) => {
+            // A FIFO has no bytes either, and reading it would wait for a writer.
+            if !fs::metadata(rt, log)?.is_file() {
+                return Ok(false);
+            }
             let log = fs::read(rt, log)?;
             Ok(has_only_begun(log.as_slice()))
         }
