@@ -63,10 +63,9 @@ or a line not be written.";
 /// The end of the help of `ledger`.
 const LEDGER_HELP: &str =
     "Prints a line for each key, by the first bytes of its SHA-256, and device: ranges, numbers given,
-numbers left. With --against it also prints a line for each FILE that shows that the ledger was put
-back: of a key and device of the ledger, with a number that it has not given. Exit status: 0 if all
-lines were printed, 1 if the ledger is older than a FILE or a FILE failed, 2 if standard error says
-why not.";
+numbers left. With --against it also prints a line for each FILE that the ledger is older than: of a
+key and device of the ledger, with a number that it has not given. Exit status: 0 if all lines were
+printed, 1 if the ledger is older than a FILE or a FILE failed, 2 if standard error says why not.";
 
 /// The program's command: `seal`, `pipe`, `unpipe`, `open`, `verify`, `show`, `audit` and `ledger`.
 pub fn command<'a>(alloc: Global) -> Result<Command<'a>, Error> {
