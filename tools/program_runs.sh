@@ -738,7 +738,7 @@ sealed files/b file 1 bytes 1492' ''
     # The memory of one file serves the next: the system isn't asked for more, or given some back, for each file (threads have stacks besides).
     fresh
     for at in 1 2 3 4 5 6 7 8; do head -c 3000000 /dev/zero > "files/f$at"; done
-    asks() { strace -f -e trace=mmap,munmap,mremap,brk,madvise -o calls "$sealer" "$@" > out 2> err && grep -c '^[0-9]' calls; }
+    asks() { strace -f -e trace=mmap,munmap,mremap,brk -o calls "$sealer" "$@" > out 2> err && grep -cE ' (mmap|munmap|mremap|brk)\(' calls; }
     few() { # NAME SUFFIX WORDS: eight files ask the system hardly more often than four
         local four
         four=$(asks "${@:3}" files/f[1-4]"$2")
