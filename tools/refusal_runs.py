@@ -56,7 +56,8 @@ def text(lines):
 
 
 # The long one has seven chunks. The last three are long enough for the second lane to begin before the first has sealed all.
-FILES = {"small": text(400), "long": text(70_000), "a": text(8_000), "b": text(9_000)[::-1], "c": text(10_000), "next": b"next\n"}
+# `great` is worth four workers to `open` and `verify`: one for each 512 KiB.
+FILES = {"small": text(400), "long": text(70_000), "great": text(320_000), "a": text(8_000), "b": text(9_000)[::-1], "c": text(10_000), "next": b"next\n"}
 FILES.update({"x": text(90_000), "y": text(80_000)[::-1], "z": text(85_000)})
 # It needs a spool.
 HUGE = bytes(range(256)) * (17 << 12)
@@ -286,7 +287,7 @@ def containers():
         put(FILES)
         assert started(sealing(*names)).returncode == 0
         made.update({(name, number): read(f"{name}.stm") for number, name in enumerate(names)})
-    for name in ("small", "long"):
+    for name in ("small", "long", "great"):
         put(FILES)
         for number in range(3):
             assert started(sealing(name)).returncode == 0
@@ -331,7 +332,7 @@ def kinds(made):
     huge_stm = huge_container()
     ledger, cut, back = ledgers()
     some = lambda *names, **more: {**{name: FILES[name] for name in (*names, "next")}, **more}
-    numbers, long_stm = read(f"{top}/examples/numbers.stm"), made["long", 0]
+    numbers, long_stm, great_stm = read(f"{top}/examples/numbers.stm"), made["long", 0], made["great", 0]
     history = read(f"{top}/examples/journal.txt")
     verdict = "legal: 2 granted, 1 sealed, 1 void, 0 open, 1 refused"
     half, quarter = {"REFUSE_FROM": 2}, {"REFUSE_FROM": 4}
@@ -366,10 +367,11 @@ def kinds(made):
     spooled = f"opened - bytes {len(HUGE)}"
     yield Kind("unpipe by a spool", unpiping, ["-"], input=huge_stm, least=100, which=both, line=spooled, whole=HUGE, last=24)
     opened, good = (f"{word} long.stm bytes {len(FILES['long'])}" for word in ("opened", "good"))
+    great_opened, great_good = (f"{word} great.stm bytes {len(FILES['great'])}" for word in ("opened", "good"))
     for workers in ("1", "2"):
         by = ["--key", key, "--workers", workers]
-        yield Kind(f"open by {workers}", ["open", *by, "long.stm"], ["long.stm"], {"long.stm": long_stm}, 50, line=opened)
-        yield Kind(f"verify by {workers}", ["verify", *by, "long.stm"], ["long.stm"], {"long.stm": long_stm}, 40, line=good)
+        yield Kind(f"open by {workers}", ["open", *by, "great.stm"], ["great.stm"], {"great.stm": great_stm}, 50, line=great_opened)
+        yield Kind(f"verify by {workers}", ["verify", *by, "great.stm"], ["great.stm"], {"great.stm": great_stm}, 40, line=great_good)
     yield Kind("open a small one", ["open", "--key", key, "small.stm"], ["small.stm"], {"small.stm": numbers}, 40, line="opened small.stm bytes 1492")
     into = ["--key", key, "--into", ".", "long.stm"]
     yield Kind("open into a folder", ["open", *into], ["long.stm"], {"long.stm": long_stm}, 40, line=opened)
@@ -381,8 +383,8 @@ def kinds(made):
     # Of four workers or lanes three are threads. If one can't be started the others do its work, with the same answer.
     by = ("REFUSE_THREADS",)
     yield Kind("seal, threads refused", sealing("--workers", "4", "long"), ["long"], some("long"), 3, by)
-    yield Kind("open, threads refused", ["open", "--key", key, "--workers", "4", "long.stm"], ["long.stm"], {"long.stm": long_stm}, 3, by, line=opened)
-    yield Kind("verify, threads refused", ["verify", "--key", key, "--workers", "4", "long.stm"], ["long.stm"], {"long.stm": long_stm}, 3, by, line=good)
+    yield Kind("open, threads refused", ["open", "--key", key, "--workers", "4", "great.stm"], ["great.stm"], {"great.stm": great_stm}, 3, by, line=great_opened)
+    yield Kind("verify, threads refused", ["verify", "--key", key, "--workers", "4", "great.stm"], ["great.stm"], {"great.stm": great_stm}, 3, by, line=great_good)
     yield Kind("lanes, threads refused", sealing("--lanes", "4", *LANES), LANES, some(*LANES), 2, by)
     yield Kind("pipe, threads refused", piping("--workers", "4"), ["-"], some(), 3, by, stream)
 
