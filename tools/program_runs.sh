@@ -735,6 +735,14 @@ sealed files/b file 1 bytes 1492' ''
     head -c 262144 /dev/zero > files/e
     started --workers 4 files/e
     is workers-of-a-file test "$status $(grep -c 'clone3\?(' calls)" = '0 3'
+    # A file that is checked has at most a worker for each 512 KiB of its container, the caller's thread among them.
+    for bytes in 900000 1100000 2097000; do head -c $bytes /dev/zero > files/g$bytes; done
+    run seal --key "$key" --ledger files/l --device 1 files/g*
+    for words in 'verify 900000 0' 'verify 1100000 1' 'verify 2097000 3' 'unpipe 900000 0' 'unpipe 1100000 2' 'unpipe 2097000 6'; do
+        read -r command bytes threads <<< "$words"
+        strace -f -e trace=clone,clone3 -o calls "$sealer" "$command" --key "$key" --workers 4 "files/g$bytes.stm" > out 2> err; status=$?
+        is "workers-of-a-check $words" test "$status $(grep -c 'clone3\?(' calls)" = "0 $threads"
+    done
     # The memory of one file serves the next: the system isn't asked for more, or given some back, for each file (threads have stacks besides).
     fresh
     for at in 1 2 3 4 5 6 7 8; do head -c 3000000 /dev/zero > "files/f$at"; done
