@@ -1,12 +1,12 @@
 #!/usr/bin/env python3
-"""build.py [-j N] [-p PROGRAM] [--figures] [CPU]: proves and builds the program, which is then crates/sealer/out/sealer.
+"""build.py [-j N] [-p PROGRAM | -t CRATE] [--figures] [CPU]: proves and builds the program, which is then crates/sealer/out/sealer.
 
 CPU is the level of the processors that the program is for: x86-64-v3 has AVX2, and x86-64-v2 is the portable one, which
 the gate builds. By default it is x86-64-v3 if this machine's processor has all features of it. The last line
 names it. A program for x86-64-v3 is crates/sealer/out/sealer-x86-64-v3 too; on a processor that lacks a feature it says
 so, and ends with status 127. The cipher takes eight blocks side by side there and else four, so that level proves the
 crates from chacha_core up over the other answer of `is_wide`, in out/x86-64-v3 of each; out/ stays as it was. PROGRAM is
-another program of crates/.
+another program of crates/. With -t it proves, builds and runs the tests of CRATE, and nothing else.
 
 Each crate is proved once those below it are, N side by side (by default one for each usable processor), and each by
 several processes. If the machine or a container is short of memory, there are fewer. The processors go first to the
@@ -332,6 +332,17 @@ def build(runs, program, processes, cpu, progress):
     return (log or "ended") if status else None
 
 
+def test(runs, crate, processes, cpu, progress):
+    """Proves, builds and runs the tests of a crate for a level, once all below it is proved. Returns the log of a failure."""
+    with room_of(crate) as folder:
+        words = ["--cpu", cpu] if crate.is_wide() else []
+        status, log, _ = watched(runs, progress, crate, folder, "test", "--jobs", str(processes), *words)
+        if status == 0:
+            keep(folder / "out", crate)
+            return None
+        return log or "ended"
+
+
 def watched(runs, progress, program, folder, *words):
     """Runs rt in a folder of the program while the progress is shown."""
     with ThreadPoolExecutor(1) as pool:
@@ -364,13 +375,15 @@ def main():
     parser = argparse.ArgumentParser(description=__doc__, formatter_class=argparse.RawDescriptionHelpFormatter)
     parser.add_argument("-j", metavar="N", type=int, default=processors())
     parser.add_argument("--figures", action="store_true")
-    parser.add_argument("-p", metavar="PROGRAM", default=PROGRAM)
+    what = parser.add_mutually_exclusive_group()
+    what.add_argument("-p", metavar="PROGRAM", default=PROGRAM)
+    what.add_argument("-t", metavar="CRATE")
     parser.add_argument("cpu", nargs="?", metavar="CPU", choices=[PORTABLE, WIDE], default=level_here())
     given = parser.parse_args()
     for it in (signal.SIGTERM, signal.SIGHUP):
         signal.signal(it, lambda *_: sys.exit("stopped"))
     print("proving and building: some minutes", file=sys.stderr)
-    *libraries, program = crates_of_program(given.p)
+    *libraries, program = crates_of_program(given.t or given.p)
     if given.cpu == WIDE:
         for it in [*libraries, program]:
             it.widen()
@@ -380,7 +393,7 @@ def main():
         if log:
             sys.exit(log)
         [(_, processes)] = fitting([program], [], most, free_memory())
-        log = build(runs, program, processes, given.cpu, progress)
+        log = (test if given.t else build)(runs, program, processes, given.cpu, progress)
         if log:
             sys.exit(log)
         progress.show([], program)
@@ -391,7 +404,10 @@ def main():
     finally:
         runs.end()
         progress.end()
-    print(f"crates/{program.name}/out/{program.name} is built for {given.cpu}", file=sys.stderr)
+    if given.t:
+        print(f"the tests of {program.name} pass, built for {given.cpu}", file=sys.stderr)
+    else:
+        print(f"crates/{program.name}/out/{program.name} is built for {given.cpu}", file=sys.stderr)
 
 
 if __name__ == "__main__":

@@ -1,10 +1,10 @@
 #!/bin/bash
-# The checks of containers over the program for x86-64-v3, crates/sealer/out/sealer-x86-64-v3.
+# The cipher's tests with all their vectors as a build for x86-64-v3 compiles them, and the checks of containers over the program for that
+# level, crates/sealer/out/sealer-x86-64-v3.
 # usage: tools/check_wide.sh
 #
-# tools/build.py makes that program on a machine with AVX2, in minutes if the portable one was built. It isn't part of the gate.
-# The cipher's vectors aren't among the checks: cipher_tests runs both bodies as the gate compiles them. Exits with status 0 if all is well, or
-# if this machine can't run the program.
+# tools/build.py makes that program on a machine with AVX2, in minutes if the portable one was built. The tests are proved for that level
+# first, which takes some minutes more. It isn't part of the gate. Exits with status 0 if all is well, or if this machine can't run the program.
 set -u
 cd "$(dirname "$0")/.."
 if ! /lib64/ld-linux-x86-64.so.2 --help 2>/dev/null | grep -q 'x86-64-v3 (supported'; then
@@ -18,6 +18,7 @@ newer=$(find crates -name '*.rt' -newer "$program" -print -quit)
 export SEALER=$program
 bad=0
 passes() { "$@" || { bad=1; echo "$*: failed"; }; }
+passes tools/build.py -t cipher_tests x86-64-v3
 passes tools/check_containers.sh
 passes tools/altered_containers.py
 passes tools/fuzz_containers.py 10000 21
