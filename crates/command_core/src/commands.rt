@@ -16,8 +16,8 @@ use crate::folder::{Folder, FolderFault, OpeningFolder, write_again_or_give_up, 
 use crate::line::{FileFault, FileOutcome, Line};
 use crate::reading::{check_labelled, read_labelled, workers_for};
 use crate::report::Report;
+use claim_core::MAX_WORKERS;
 use container_core::{Key, MAX_OPENED, MAX_PLAIN, OpenFault};
-use gate_core::MAX_WORKERS;
 use ledger_core::Failed;
 use opening_core::Stopped;
 use std::alloc::Global;

@@ -11,8 +11,8 @@ ghost use Rattle.command_core.specs.Trace.{Event, Closes, Creates, Discarded, Di
 ghost use Rattle.command_core.specs.Trace.{FailsToRewind, Finished, Finishes, IsCounted, IsLength, IsOpenedBy, IsReadAgain};
 ghost use Rattle.command_core.specs.Trace.{Nothing, Opens, Refuses, Rewinds};
 
+use claim_core::{Free, MAX_WORKERS};
 use container_core::{Header, Key, MAX_OPENED, OpenFault};
-use gate_core::{Free, MAX_WORKERS};
 use ledger_core::{Failed, Source};
 use opening_core::{Plaintext, Stopped, write_again};
 use output_core::Output;

@@ -23,5 +23,5 @@ pub use crate::key_file::{KeyFault, read_key};
 pub use crate::line::{FileFault, FileOutcome, Line};
 pub use crate::report::Report;
 pub use crate::unpiping::{OpeningStream, UnpipeOptions, unpipe_all};
-pub use gate_core::MAX_WORKERS;
+pub use claim_core::MAX_WORKERS;
 pub use opening_core::Plaintext;

@@ -8,8 +8,8 @@ ghost use Rattle.command_core.specs.Work.{IsFaultOf, IsOfOpening, IsOfVerifying,
 
 use crate::label::is_labelled;
 use crate::line::{FileFault, FileOutcome};
+use claim_core::{Free, MAX_WORKERS};
 use container_core::{Header, Key, MAX_OPENED};
-use gate_core::{Free, MAX_WORKERS};
 use ledger_core::Source;
 use opening_core::{Plaintext, run_check, run_read};
 use std::alloc::Global;

@@ -4,9 +4,9 @@ ghost use Rattle.clap.specs.Matches.{found_of, one_text};
 ghost use Rattle.command_line.specs.Given.{IsWithin, number_given};
 
 use crate::fault::UsageFault;
+use claim_core::{MAX_DEPTH, MAX_LANES, MAX_WINDOW, MAX_WORKERS};
 use clap::ArgMatches;
 use container_core::{MAX_EXPONENT, MAX_OPENED, MAX_PLAIN, MIN_EXPONENT};
-use gate_core::{MAX_DEPTH, MAX_LANES, MAX_WINDOW, MAX_WORKERS};
 use ledger_core::Device;
 
 /// Plaintext bytes of a file if no limit is given, except to `unpipe`: 1 GiB.

@@ -8,9 +8,9 @@ ghost use Rattle.command_line.specs.Given.{AreFactsAsked, IsFlag, IsForMany, IsW
 use crate::fault::UsageFault;
 use crate::given::{DEFAULT_MAX_BYTES, DEFAULT_WORKERS, open_numbers};
 use crate::names::inputs_in;
+use claim_core::MAX_WORKERS;
 use clap::ArgMatches;
 use container_core::{MAX_LABEL, MAX_OPENED};
-use gate_core::MAX_WORKERS;
 
 /// What becomes of the plaintext of containers.
 #[derive(Clone, Copy, PartialEq, Eq, Debug)]

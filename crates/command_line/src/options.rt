@@ -2,8 +2,8 @@
 
 use crate::given::MAX_WAIT;
 use crate::rows::{Absent, Row, Takes};
+use claim_core::{MAX_DEPTH, MAX_LANES, MAX_WINDOW, MAX_WORKERS};
 use container_core::{MAX_EXPONENT, MAX_OPENED, MAX_PLAIN, MIN_EXPONENT};
-use gate_core::{MAX_DEPTH, MAX_LANES, MAX_WINDOW, MAX_WORKERS};
 use ledger_core::Device;
 
 /// What every command takes that seals, opens or verifies.

@@ -3,7 +3,7 @@ ghost use Rattle.std.specs.Prelude.{◌<◌, ◌≤◌, ◌≡◌, ◌≢◌, �
 ghost use Rattle.std.specs.Prelude.{length, not, option_map, unwrap_or};
 ghost use Rattle.clap.specs.Matches.{first_value, found_of};
 ghost use Rattle.container_core.specs.Shape.{IsShape, IsShort, size_of};
-ghost use Rattle.gate_core.specs.Window.{usual};
+ghost use Rattle.claim_core.specs.Window.{usual};
 ghost use Rattle.command_line.specs.Asked.{shape_asked};
 ghost use Rattle.command_line.specs.Given.{IsFlag, number_given};
 
@@ -12,9 +12,9 @@ use crate::given::{
     DEFAULT_DEPTH, DEFAULT_LANES, DEFAULT_MAX_BYTES, DEFAULT_MAX_CHUNKS, DEFAULT_WAIT,
     DEFAULT_WORKERS, MAX_WAIT, pipe_numbers, seal_numbers,
 };
+use claim_core::{MAX_DEPTH, MAX_LANES, MAX_WINDOW, MAX_WORKERS, usual_window};
 use clap::ArgMatches;
 use container_core::{MAX_EXPONENT, MAX_LABEL, MAX_PLAIN, MIN_EXPONENT, Shape};
-use gate_core::{MAX_DEPTH, MAX_LANES, MAX_WINDOW, MAX_WORKERS, usual_window};
 use ledger_core::Device;
 
 /// The exponent of the chunk size if only a label is given: chunks of 65,536 bytes.

@@ -5,8 +5,8 @@ ghost use Rattle.std.specs.List.{before_first, list_any};
 ghost use Rattle.command_line.specs.Words.{asks, inline_number, most_bytes, scaled, stands_for, takes_of, unit_of, word_read};
 ghost use Rattle.command_line.specs.Words.{written_out};
 
+use claim_core::MAX_WORKERS;
 use container_core::{MAX_OPENED, MAX_PLAIN};
-use gate_core::MAX_WORKERS;
 use std::alloc::{AllocError, Global};
 
 /// What the value of an option may be besides a number.

@@ -17,7 +17,9 @@ pub mod whole;
 pub use crate::batch::seal_batch;
 pub use crate::outcome::Outcome;
 pub use crate::whole::{open_whole, seal_round, seal_whole};
-pub use gate_core::{DEFAULT_WINDOW, Free, Gate, MAX_LANES, MAX_WINDOW, MAX_WORKERS, usual_window};
+pub use claim_core::{
+    DEFAULT_WINDOW, Free, Gate, MAX_LANES, MAX_WINDOW, MAX_WORKERS, usual_window,
+};
 pub use piece_core::{Kind, Piece, PutFault, Shelf, ShelfFault, Work};
 pub use pipe_core::{MAX_DEPTH, pipe};
 

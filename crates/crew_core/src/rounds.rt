@@ -16,9 +16,9 @@ ghost use Rattle.container_core.specs.Container.{size_in};
 ghost use Rattle.crew_core.specs.Rounds.{CanMake, round_count};
 ghost use Rattle.worker_core.specs.Crew.{idle};
 
+use claim_core::{Gate, MAX_WORKERS};
 use container_core::laws::{chunks_by_number, chunks_counted, rounds_of_a_stream, rounds_open};
 use container_core::{Cut, Header, Key, MAX_CHUNKS, MAX_PLAIN, TAG};
-use gate_core::{Gate, MAX_WORKERS};
 use round_core::laws::{pieces_by_number, refused_pieces, rounds_are_opened, rounds_are_sealed};
 use round_core::{Places, Round, Task};
 use std::alloc::{AllocError, Global};

@@ -11,13 +11,13 @@ ghost use Rattle.journal_core.specs.declared.entry.Way.TheVariants.{Sealed, Void
 ghost use Rattle.ledger_core.specs.Range.{prefix_of};
 
 use crate::rounds::{Rooms, open_rounds, seal_rounds};
+use claim_core::{Gate, MAX_WINDOW, MAX_WORKERS};
 use container_core::laws::{
     chunks_by_number, headers_name_their_shape, opening_faults, rounds_of_a_stream, rounds_open,
 };
 use container_core::{
     Cut, Header, Key, MAX_HEADER, MAX_OPENED, MAX_PLAIN, OpenFault, Shape, TAG, begin,
 };
-use gate_core::{Gate, MAX_WINDOW, MAX_WORKERS};
 use ledger_core::{Grant, Spent};
 use round_core::Task;
 use std::alloc::{AllocError, Global};

@@ -7,8 +7,8 @@ ghost use Rattle.ledger_core.specs.Range.{prefix_of};
 ghost use Rattle.ledger_core.specs.Shared.{spent_as};
 ghost use Rattle.output_core.specs.Bounds.{Admits};
 
+use claim_core::{Gate, MAX_DEPTH, MAX_WORKERS};
 use container_core::{Header, Key, SealFault, Shape};
-use gate_core::{Gate, MAX_DEPTH, MAX_WORKERS};
 use io_core::Source;
 use ledger_core::{Grant, Spent};
 use output_core::Output;

@@ -11,8 +11,8 @@ ghost use Rattle.ledger_core.specs.Shared.{spent_as};
 ghost use Rattle.engine_core.specs.Engine.{HasReadPlain, HasWrittenRounds};
 ghost use Rattle.output_core.specs.Bounds.{Admits};
 
+use claim_core::{DEFAULT_WINDOW, Gate, MAX_WINDOW, MAX_WORKERS};
 use container_core::{Header, Key, MAX_PLAIN, SealFault, Shape};
-use gate_core::{DEFAULT_WINDOW, Gate, MAX_WINDOW, MAX_WORKERS};
 use io_core::Source;
 use ledger_core::{Grant, Spent};
 use output_core::Output;

@@ -6,9 +6,9 @@ ghost use Rattle.output_core.specs.Bounds.{Admits};
 ghost use Rattle.pipe_core.specs.Pipe.{HasPiped, whole};
 ghost use Rattle.folder_core.specs.Record.{bound_in};
 
+use claim_core::{Gate, MAX_DEPTH, MAX_WORKERS};
 use container_core::{Header, Key, MAX_OPENED, SealFault};
 use folder_core::{Outputs, Rest, lent_of, taken_in_hand};
-use gate_core::{Gate, MAX_DEPTH, MAX_WORKERS};
 use io_core::Source;
 use opening_core::{Stopped, write_again};
 use pipe_core::pipe;

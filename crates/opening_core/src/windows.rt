@@ -25,9 +25,9 @@ ghost use Rattle.opening_core.specs.Windows.{IsReady, IsTakingFault, IsTurningFa
 use crate::front::{open_front, refuse};
 use crate::rooms::{Rooms, byte_behind};
 use crate::taking::Taking;
+use claim_core::{Gate, MAX_WINDOW, MAX_WORKERS, usual_opening};
 use container_core::laws::{chunks_by_number, chunks_of_two_parts, rounds_open};
 use container_core::{Cut, Header, Key, MAX_CHUNKS, MAX_OPENED, OpenFault, TAG, begin_within};
-use gate_core::{Gate, MAX_WINDOW, MAX_WORKERS, usual_opening};
 use io_core::{Failed, Source};
 use round_core::laws::{pieces_by_number, refused_pieces, rounds_are_checked, rounds_are_opened};
 use round_core::{Places, Round, Task};

@@ -9,8 +9,8 @@ ghost use Rattle.container_core.specs.Stream.{sealed_chunk, stream_by};
 ghost use Rattle.pipe_core.specs.Pieces.{block, room, IsBlock};
 
 use crate::line::Naming;
+use claim_core::Gate;
 use container_core::{Header, Key, TAG, seal_chunk};
-use gate_core::Gate;
 
 /// Plaintext bytes of a block.
 pub(crate) fn block_bytes<N: Naming>(header: &Header, each: u32) -> usize

@@ -22,4 +22,4 @@ mod writing;
 
 pub use crate::endless::pipe;
 pub use crate::rounds::pipe_rounds;
-pub use gate_core::MAX_DEPTH;
+pub use claim_core::MAX_DEPTH;

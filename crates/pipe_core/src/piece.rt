@@ -6,8 +6,8 @@ ghost use Rattle.container_core.specs.Chunks.{max_chunks};
 
 use crate::block::{block_bytes, seal_block};
 use crate::line::Naming;
+use claim_core::Gate;
 use container_core::{Header, Key};
-use gate_core::Gate;
 
 /// What goes to a worker.
 #[derive(Drop)]

@@ -15,9 +15,9 @@ use crate::line::{Cut, Hand, JobLine, Naming, PieceLine, Total, put_task, take_t
 use crate::piece::{Piece, Task};
 use crate::round::{Plan, Round};
 use crate::worker::worker;
+use claim_core::{Gate, MAX_WORKERS};
 use container_core::{Header, Key, SealFault};
 use crossbeam_queue::Pass;
-use gate_core::{Gate, MAX_WORKERS};
 use io_core::Source;
 use output_core::Output;
 use std::alloc::{AllocError, Global};

@@ -6,9 +6,9 @@ ghost use Rattle.pipe_core.specs.Pieces.{IsBlock};
 
 use crate::line::{Hand, JobLine, Naming, PieceLine, put_piece, take_task};
 use crate::piece::{Piece, Task, make_piece};
+use claim_core::Gate;
 use container_core::{Header, Key};
 use crossbeam_queue::Pass;
-use gate_core::Gate;
 use std::sync::Wait;
 use std::thread;
 use std::thread::Parker;

@@ -11,7 +11,7 @@ ghost use Rattle.worker_core.specs.Crew.{AreWorked, HasMade, IsOfCrew, IsReady, 
 
 use crate::word::Word;
 use crate::workers::make_round;
-use gate_core::{Gate, MAX_WORKERS};
+use claim_core::{Gate, MAX_WORKERS};
 use round_core::{Bench, Places, Round};
 use std::alloc::{AllocError, Global};
 use std::marker::Model;

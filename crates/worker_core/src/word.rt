@@ -4,8 +4,7 @@ ghost use Rattle.std.specs.Bool.{OnTrue};
 ghost use Rattle.claim_core.specs.Claims.{newcomer};
 ghost use Rattle.worker_core.specs.Crew.{word_of};
 
-use claim_core::{Claimant, Claims};
-use gate_core::MAX_WORKERS;
+use claim_core::{Claimant, Claims, MAX_WORKERS};
 use std::alloc::{AllocError, Global};
 use std::marker::Model;
 

@@ -9,8 +9,7 @@ ghost use Rattle.round_core.specs.Pieces.{all_made, number_of, Covers};
 ghost use Rattle.worker_core.specs.Crew.{AreWorked, HasDrawn, IsReady, IsWorked};
 
 use crate::word::{Word, word_for};
-use claim_core::{Claimant, Claims};
-use gate_core::{Gate, MAX_WORKERS};
+use claim_core::{Claimant, Claims, Gate, MAX_WORKERS};
 use round_core::{Bench, Round};
 use std::alloc::Global;
 use std::thread::{Threads, join_mut};

@@ -4,7 +4,7 @@
 //! holds. Opening starts workers anew for each round, so with several a round is long. One worker starts none. It is
 //! fastest if a round and the next, which is read after it, stay in that cache.
 ghost use Rattle.std.specs.Prelude.{◌≡◌, ◌<◌, ◌≤◌};
-ghost use Rattle.gate_core.specs.Window.{chunks_in, usual, usual_opening};
+ghost use Rattle.claim_core.specs.Window.{chunks_in, usual, usual_opening};
 
 use crate::{DEFAULT_WINDOW, MAX_WINDOW, MAX_WORKERS};
 
