@@ -9,8 +9,8 @@ use Rattle.container_core.specs.Stream.{stream, stream_by}
 use Rattle.container_core.specs.Opening.{behind, early_fault, opening, unless, unsealed, unsealed_by}
 use Rattle.container_core.proofs.OpeningLemmas.{behind-behind}
 use Rattle.container_core.proofs.PartsLemmas.{body-count, count-grows, count-more, count-whole}
-use Rattle.round_core.specs.declared.round.Task.{Task}
-use Rattle.round_core.specs.Views.{PlacesView}
+use Rattle.worker_core.specs.declared.round.Task.{Task}
+use Rattle.worker_core.specs.Views.{PlacesView}
 use Rattle.worker_core.specs.Crew.{CrewView}
 use Rattle.crew_core.specs.Rounds.{CanMake}
 

@@ -1,8 +1,8 @@
 -- Inside: how many chunks a round has, and when a crew can make one.
 use Rattle.std.specs.Prelude.{◌≡◌, ℕ, ◌/◌, ◌≤◌, []}
-use Rattle.round_core.specs.declared.round.Task.{Task}
-use Rattle.round_core.specs.Parts.{room_of}
-use Rattle.round_core.specs.Views.{PlacesView}
+use Rattle.worker_core.specs.declared.round.Task.{Task}
+use Rattle.worker_core.specs.Parts.{room_of}
+use Rattle.worker_core.specs.Views.{PlacesView}
 use Rattle.worker_core.specs.Crew.{CrewView}
 use Rattle.crew_core.specs.declared.rounds.TheConstants.{ROUND}
 

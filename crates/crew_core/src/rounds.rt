@@ -9,9 +9,9 @@ ghost use Rattle.container_core.specs.declared.fault.OpenFault.TheVariants.{Forg
 ghost use Rattle.container_core.specs.Chunks.{body_length, chunk_count, chunks, sealed_chunks, most_chunk};
 ghost use Rattle.container_core.specs.Opening.{unsealed_by};
 ghost use Rattle.container_core.specs.Stream.{stream_by};
-ghost use Rattle.round_core.specs.Answer.{answer, joined, named};
-ghost use Rattle.round_core.specs.Parts.{body_bytes, room_of};
-ghost use Rattle.round_core.specs.Values.{round_of};
+ghost use Rattle.worker_core.specs.Answer.{answer, joined, named};
+ghost use Rattle.worker_core.specs.Parts.{body_bytes, room_of};
+ghost use Rattle.worker_core.specs.Values.{round_of};
 ghost use Rattle.container_core.specs.Container.{size_in};
 ghost use Rattle.crew_core.specs.Rounds.{CanMake, round_count};
 ghost use Rattle.worker_core.specs.Crew.{idle};
@@ -19,11 +19,10 @@ ghost use Rattle.worker_core.specs.Crew.{idle};
 use claim_core::{Gate, MAX_WORKERS};
 use container_core::laws::{chunks_by_number, chunks_counted, rounds_of_a_stream, rounds_open};
 use container_core::{Cut, Header, Key, MAX_CHUNKS, MAX_PLAIN, TAG};
-use round_core::laws::{pieces_by_number, refused_pieces, rounds_are_opened, rounds_are_sealed};
-use round_core::{Places, Round, Task};
 use std::alloc::{AllocError, Global};
 use std::thread::Threads;
-use worker_core::Crew;
+use worker_core::laws::{pieces_by_number, refused_pieces, rounds_are_opened, rounds_are_sealed};
+use worker_core::{Crew, Places, Round, Task};
 
 // Plaintext bytes of a round that isn't the last: 4 MiB. One worker seals them in some 5 ms, and a thread starts in
 // less than 0.1 ms. A round has 4 chunks of 1 MiB, 64 of 64 KiB, or 1,024 of 4 KiB.

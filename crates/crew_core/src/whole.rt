@@ -19,9 +19,9 @@ use container_core::{
     Cut, Header, Key, MAX_HEADER, MAX_OPENED, MAX_PLAIN, OpenFault, Shape, TAG, begin,
 };
 use ledger_core::{Grant, Spent};
-use round_core::Task;
 use std::alloc::{AllocError, Global};
 use std::thread::Threads;
+use worker_core::Task;
 
 // Returns `front` and after it the sealed chunks. Allocates all memory before the first is sealed.
 fn sealed_behind<R: Threads + Sync, G: Gate + Sync>(

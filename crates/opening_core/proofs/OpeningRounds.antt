@@ -20,10 +20,10 @@ use Rattle.container_core.proofs.OpeningLemmas.{behind-behind, behind-nil}
 use Rattle.container_core.proofs.PartsLemmas.{body-count, container_length-grows, container_length-more, count-enough, count-numbers}
 use Rattle.container_core.proofs.PartsLemmas.{most_of-chunks}
 use Rattle.container_core.proofs.PartsLemmas.{count-more, count-one, count-some, count-tight, count-whole}
-use Rattle.round_core.specs.declared.round.Task.{Task}
-use Rattle.round_core.specs.declared.round.Task.TheVariants.{Sealing, Opening, Checking}
-use Rattle.round_core.specs.Parts.{body_bytes}
-use Rattle.round_core.specs.Values.{parts_of}
+use Rattle.worker_core.specs.declared.round.Task.{Task}
+use Rattle.worker_core.specs.declared.round.Task.TheVariants.{Sealing, Opening, Checking}
+use Rattle.worker_core.specs.Parts.{body_bytes}
+use Rattle.worker_core.specs.Values.{parts_of}
 use Rattle.opening_core.specs.Engine.{OpensTo}
 use Rattle.opening_core.specs.Fronts.{SaysLength, ReadsOn, IsNamed, Answers}
 use Rattle.opening_core.proofs.FrontLemmas.{input-answers}

@@ -7,11 +7,11 @@ use Rattle.container_core.specs.declared.fault.OpenFault.{OpenFault}
 use Rattle.container_core.specs.Chunks.{sealed_chunks}
 use Rattle.container_core.specs.Container.{header_length, size_in}
 use Rattle.container_core.specs.Opening.{unsealed, unsealed_by, behind, unless, early_fault, opening}
-use Rattle.round_core.specs.Answer.{joined}
+use Rattle.worker_core.specs.Answer.{joined}
 use Rattle.output_core.specs.Bounds.{Admits, Allows, Bound, Checked, IsChecked}
 use Rattle.output_core.proofs.BoundLemmas.{admits_rest, admits_same, allows_front, front_behind}
-use Rattle.round_core.specs.declared.round.Task.{Task}
-use Rattle.round_core.specs.declared.round.Task.TheVariants.{Sealing, Opening, Checking}
+use Rattle.worker_core.specs.declared.round.Task.{Task}
+use Rattle.worker_core.specs.declared.round.Task.TheVariants.{Sealing, Opening, Checking}
 use Rattle.opening_core.specs.Windows.{HasBegun, HasBegunLast, HasSent, MayTake, MayTakeLast}
 use Rattle.opening_core.proofs.AnswerLemmas.{opening-body}
 use Rattle.opening_core.proofs.OpeningRounds.{OpensBehind, opens-last}

@@ -18,7 +18,7 @@ use Rattle.opening_core.specs.Fronts.{Answers, SaysLength}
 use Rattle.opening_core.specs.Twice.{CountsOn, HasOpenedTwice, HasWrittenAgain, MayWrite, MayWriteIt, WritesSome}
 use Rattle.opening_core.specs.Twice.{broken_by_read, broken_by_write, stopped_by_read}
 use Rattle.output_core.specs.Bounds.{Allows, Bound, Checked}
-use Rattle.round_core.specs.declared.round.Task.TheVariants.{Opening}
+use Rattle.worker_core.specs.declared.round.Task.TheVariants.{Opening}
 use Rattle.opening_core.specs.Windows.{HasBegun, HasSent, MayTake}
 use Rattle.opening_core.proofs.FrontLemmas.{ended, input-answers}
 use Rattle.opening_core.proofs.ReadingLemmas.{header-before, header-opened}

@@ -8,12 +8,12 @@ use Rattle.container_core.specs.declared.fault.OpenFault.TheVariants as opening_
 use Rattle.container_core.specs.Opening.{opening, unsealed_by}
 use Rattle.io_core.specs.Reads.{ConsumesUpTo}
 use Rattle.io_core.specs.Streams.{Appends, AppendsFront, Consumes, IsAtEnd, IsFront, counted}
-use Rattle.round_core.specs.declared.round.Task.{Task}
-use Rattle.round_core.specs.declared.round.Task.TheVariants.{Opening}
+use Rattle.worker_core.specs.declared.round.Task.{Task}
+use Rattle.worker_core.specs.declared.round.Task.TheVariants.{Opening}
 use Rattle.container_core.specs.declared.TheConstants.{TAG}
-use Rattle.round_core.specs.Parts.{room_of}
-use Rattle.round_core.specs.Answer.{joined}
-use Rattle.round_core.specs.Views.{PlacesView}
+use Rattle.worker_core.specs.Parts.{room_of}
+use Rattle.worker_core.specs.Answer.{joined}
+use Rattle.worker_core.specs.Views.{PlacesView}
 use Rattle.worker_core.specs.Crew.{CrewView}
 use Rattle.window_core.specs.Windows.{WindowView}
 use Rattle.opening_core.specs.Engine.{open_read_failed, open_write_failed}

@@ -2,14 +2,14 @@
 ghost use Rattle.std.specs.Prelude.{◌≡◌, true, OnOk, OnErr, is_err};
 ghost use Rattle.io_core.specs.Streams.{Appends, AppendsFront, counted};
 ghost use Rattle.output_core.specs.Bounds.{Admits};
-ghost use Rattle.round_core.specs.Answer.{joined};
+ghost use Rattle.worker_core.specs.Answer.{joined};
 
 use crate::taking::Taking;
 use container_core::OpenFault;
 use io_core::Failed;
 use output_core::{Output, put_all};
-use round_core::Places;
 use std::alloc::Global;
+use worker_core::Places;
 
 /// What takes pieces by writing them.
 #[derive(Drop)]

@@ -2,12 +2,12 @@
 //! made, or a writer (`pouring`).
 ghost use Rattle.std.specs.Prelude.{◌≡◌, ℕ, List, Bool, false, Option, Some, None, IfErr};
 ghost use Rattle.output_core.specs.Bounds.{Admits, Bound};
-ghost use Rattle.round_core.specs.Answer.{joined};
+ghost use Rattle.worker_core.specs.Answer.{joined};
 ghost use Rattle.opening_core.specs.Windows.{HasGathered, IsTakingFault};
 
 use container_core::OpenFault;
-use round_core::{Parts, Places};
 use std::alloc::{AllocError, Global};
+use worker_core::{Parts, Places};
 
 /// What takes the pieces of rounds.
 pub(crate) trait Taking {

@@ -25,9 +25,9 @@ use claim_core::{Gate, MAX_WORKERS, usual_opening};
 use container_core::{Header, Key, MAX_OPENED, OpenFault};
 use io_core::{Failed, Source};
 use output_core::Output;
-use round_core::Task;
 use std::alloc::Global;
 use std::thread::Threads;
+use worker_core::Task;
 
 /// Why an opening by two readings stopped.
 #[derive(Clone, Copy, PartialEq, Eq, Debug)]

@@ -14,8 +14,8 @@ ghost use Rattle.container_core.specs.Opening.{longest, opening, unsealed_by};
 ghost use Rattle.io_core.specs.Reads.{ConsumesUpTo};
 ghost use Rattle.io_core.specs.Streams.{Appends, Consumes, IsAtEnd, counted};
 ghost use Rattle.output_core.specs.Bounds.{Admits};
-ghost use Rattle.round_core.specs.Values.{round_of, values_of};
-ghost use Rattle.round_core.specs.Answer.{joined};
+ghost use Rattle.worker_core.specs.Values.{round_of, values_of};
+ghost use Rattle.worker_core.specs.Answer.{joined};
 ghost use Rattle.opening_core.specs.Engine.{HasHeader, HasReadContainer, OpensTo, open_read_failed};
 ghost use Rattle.opening_core.specs.Engine.{open_write_failed};
 ghost use Rattle.opening_core.specs.Fronts.{Answers, SaysLength};
@@ -29,12 +29,12 @@ use claim_core::{Gate, MAX_WINDOW, MAX_WORKERS, usual_opening};
 use container_core::laws::{chunks_by_number, chunks_of_two_parts, rounds_open};
 use container_core::{Cut, Header, Key, MAX_CHUNKS, MAX_OPENED, OpenFault, TAG, begin_within};
 use io_core::{Failed, Source};
-use round_core::laws::{pieces_by_number, refused_pieces, rounds_are_checked, rounds_are_opened};
-use round_core::{Places, Round, Task};
 use std::alloc::{AllocError, Global};
 use std::mem;
 use std::thread::Threads;
 use window_core::Window;
+use worker_core::laws::{pieces_by_number, refused_pieces, rounds_are_checked, rounds_are_opened};
+use worker_core::{Places, Round, Task};
 
 // How many bytes `chunks` sealed chunks have under a header, where none of them is the last.
 fn sealed_bytes(chunks: u32, header: &Header) -> usize

@@ -3,15 +3,15 @@ use Rattle.std.proofs.Common.{◌≡◌, ℕ, zero, suc, ◌+◌, ◌<◌, ◌�
 use Rattle.std.proofs.Common.{append_assoc, append-nil, length-append, get_or, take, drop, take_at, inl, inr, eq-eqb}
 use Rattle.std.proofs.lemmas.Bool.{cases_lt}
 use Rattle.claim_core.specs.Claims.{times, once_below}
-use Rattle.round_core.specs.Pieces.{all_made, number_of, emptied, IsPiece, Covers}
-use Rattle.round_core.specs.Views.{RoundView, MadeView, BenchView}
+use Rattle.worker_core.specs.Pieces.{all_made, number_of, emptied, IsPiece, Covers}
+use Rattle.worker_core.specs.Views.{RoundView, MadeView, BenchView}
 use Rattle.claim_core.specs.Claims.{ClaimsView, ClaimantView, joined}
 use Rattle.worker_core.specs.Crew.{IsReady, IsWorked, AreWorked, HasDrawn, IsOfCrew}
 use Rattle.std.proofs.lemmas.List.Elements.{All-push, All-append}
 use Rattle.std.proofs.Common.{set}
 use Rattle.std.proofs.lemmas.Bool.Decides.{nat_tests}
-use Rattle.round_core.specs.Pieces.{piece_of}
-use Rattle.round_core.specs.Parts.{room_of}
+use Rattle.worker_core.specs.Pieces.{piece_of}
+use Rattle.worker_core.specs.Parts.{room_of}
 
 pub all_made_append : (xs ys : List BenchView) → all_made (xs ++ ys) ≡ all_made xs ++ all_made ys
 all_made_append [] ys = refl

@@ -1,9 +1,9 @@
 -- What workers do on their benches in a round.
 use Rattle.std.specs.Prelude.{◌≡◌, ℕ, ◌+◌, ◌<◌, ◌≤◌, List, [], ◌∷◌, length, map, All}
 use Rattle.claim_core.specs.Claims.{ClaimsView, ClaimantView, IsOf}
-use Rattle.round_core.specs.Parts.{room_of}
-use Rattle.round_core.specs.Pieces.{times, number_of, IsPiece}
-use Rattle.round_core.specs.Views.{RoundView, MadeView, BenchView}
+use Rattle.worker_core.specs.Parts.{room_of}
+use Rattle.worker_core.specs.Pieces.{times, number_of, IsPiece}
+use Rattle.worker_core.specs.Views.{RoundView, MadeView, BenchView}
 
 -- a bench has room for all pieces of a round, and none are on it
 pub record IsReady (round : RoundView) (bench : BenchView) : Type 0 where

@@ -1,1 +1,7 @@
 pub mod Crew
+pub mod Views
+pub mod Values
+pub mod Pieces
+pub mod Answer
+pub mod Parts
+pub mod Rooms

@@ -5,14 +5,16 @@
 //! made, or else a new one. Without a word the caller's thread works alone. So once a crew exists, no call of the two
 //! fails for lack of memory; a chore may.
 ghost use Rattle.std.specs.Prelude.{◌≡◌, ◌<◌, ◌≤◌, [], length, map, All, IfOk};
-ghost use Rattle.round_core.specs.Parts.{room_of};
-ghost use Rattle.round_core.specs.Pieces.{all_made, emptied, Covers, IsPiece};
+ghost use Rattle.worker_core.specs.Parts.{room_of};
+ghost use Rattle.worker_core.specs.Pieces.{all_made, emptied, Covers, IsPiece};
 ghost use Rattle.worker_core.specs.Crew.{AreWorked, HasMade, IsOfCrew, IsReady, idle};
 
+use crate::bench::Bench;
+use crate::places::Places;
+use crate::round::Round;
 use crate::word::Word;
 use crate::workers::make_round;
 use claim_core::{Gate, MAX_WORKERS};
-use round_core::{Bench, Places, Round};
 use std::alloc::{AllocError, Global};
 use std::marker::Model;
 use std::thread::Threads;
@@ -30,7 +32,7 @@ pub struct Crew {
 
 impl Model for Crew {
     ghost use Rattle.std.specs.Prelude.{◌<◌, ◌≤◌, length, All};
-    ghost use Rattle.round_core.specs.Pieces.{all_made};
+    ghost use Rattle.worker_core.specs.Pieces.{all_made};
     ghost use Rattle.worker_core.specs.Crew.{CrewView, IsOfCrew};
 
     ghost Value = { CrewView };

@@ -5,12 +5,13 @@ ghost use Rattle.std.specs.Prelude.{◌≡◌, ℕ, ◌+◌, ◌-◌, ◌*◌, �
 ghost use Rattle.std.specs.Thread.{IsSync};
 ghost use Rattle.claim_core.specs.Claims.{IsOf, newcomer};
 ghost use Rattle.claim_core.specs.Claims.{times};
-ghost use Rattle.round_core.specs.Pieces.{all_made, number_of, Covers};
+ghost use Rattle.worker_core.specs.Pieces.{all_made, number_of, Covers};
 ghost use Rattle.worker_core.specs.Crew.{AreWorked, HasDrawn, IsReady, IsWorked};
 
+use crate::bench::Bench;
+use crate::round::Round;
 use crate::word::{Word, word_for};
 use claim_core::{Claimant, Claims, Gate, MAX_WORKERS};
-use round_core::{Bench, Round};
 use std::alloc::Global;
 use std::thread::{Threads, join_mut};
 

@@ -5,10 +5,9 @@ ghost use Rattle.container_core.specs.Container.{size_in};
 
 use container_core::{Cut, Header, Shape};
 use crew_tests::{PREFIX, counting_key};
-use round_core::{Places, Round, Task};
 use std::alloc::{AllocError, Global};
 use std::thread::Threads;
-use worker_core::{Crew, Gate, MAX_WORKERS};
+use worker_core::{Crew, Gate, MAX_WORKERS, Places, Round, Task};
 
 // The pieces of a round, made by a new crew during a chore. The chore must be done once.
 pub fn pieces_of<R: Threads + Sync, G: Gate + Sync>(

@@ -4,11 +4,10 @@ ghost use Rattle.std.specs.Prelude.{◌<◌, ◌≤◌};
 use crate::pieces::{are_pieces, pieces_of, seals_to};
 use container_core::{CHUNK, Cut, HEADER, Header, SEALED, Shape, seal};
 use crew_tests::{EIGHT, PREFIX, counting_key, flip, is_digest, pattern};
-use round_core::{Places, Round, Task};
 use std::alloc::Global;
 use std::test::Fail;
 use std::thread::Threads;
-use worker_core::{Free, MAX_WORKERS};
+use worker_core::{Free, MAX_WORKERS, Places, Round, Task};
 
 // Whether these chunks of a plaintext, sealed as a round with `workers` workers, are a part of the container.
 fn is_part<R: Threads + Sync>(

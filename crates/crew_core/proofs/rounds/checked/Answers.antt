@@ -1,5 +1,5 @@
 use Rattle.std.proofs.Common.{rules, ◌≡◌, Some, sym}
-use Rattle.round_core.specs.Answer.{first_refused}
+use Rattle.worker_core.specs.Answer.{first_refused}
 use Rattle.crew_core.proofs.rounds.checked.Goals as goal
 
 pub overflow_add-result : goal.overflow_add-result

@@ -5,10 +5,10 @@ use Rattle.container_core.specs.Container.{size_in}
 use Rattle.container_core.specs.Opening.{behind, unsealed_by}
 use Rattle.container_core.proofs.OpeningLemmas.{behind-nil}
 use Rattle.container_core.proofs.PartsLemmas.{container_length-grows, count-numbers, count-some}
-use Rattle.round_core.specs.declared.round.Task.TheVariants.{Opening}
-use Rattle.round_core.specs.Answer.{answer, joined, named}
-use Rattle.round_core.specs.Values.{round_of, values_of}
-use Rattle.round_core.specs.Views.{RoundView}
+use Rattle.worker_core.specs.declared.round.Task.TheVariants.{Opening}
+use Rattle.worker_core.specs.Answer.{answer, joined, named}
+use Rattle.worker_core.specs.Values.{round_of, values_of}
+use Rattle.worker_core.specs.Views.{RoundView}
 use Rattle.crew_core.specs.Rounds.{CanMake, round_count}
 use Rattle.crew_core.proofs.RoundLemmas.{can-less, opened-next, opened-not, round-body, sealed-within}
 use Rattle.crew_core.proofs.rounds.open_rounds.Goals as goal

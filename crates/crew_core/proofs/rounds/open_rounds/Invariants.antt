@@ -2,8 +2,8 @@
 use Rattle.std.proofs.Common.{◌≡◌, ◌+◌, ◌≤◌, ◌++◌, true, length, min, vec_len, vec_capacity}
 use Rattle.container_core.specs.Chunks.{body_length, chunk_count, sealed_chunks}
 use Rattle.container_core.specs.Opening.{behind, unsealed_by}
-use Rattle.round_core.specs.declared.round.Task.TheVariants.{Opening}
-use Rattle.round_core.specs.Answer.{joined}
+use Rattle.worker_core.specs.declared.round.Task.TheVariants.{Opening}
+use Rattle.worker_core.specs.Answer.{joined}
 use Rattle.crew_core.specs.Rounds.{CanMake, round_count}
 use Rattle.crew_core.proofs.rounds.open_rounds.Given as goal
 

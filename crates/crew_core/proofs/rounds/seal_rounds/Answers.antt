@@ -3,10 +3,10 @@ use Rattle.container_core.specs.Chunks.{chunks, chunk_count}
 use Rattle.container_core.specs.Container.{size_in}
 use Rattle.container_core.specs.Stream.{stream_by}
 use Rattle.container_core.proofs.PartsLemmas.{count-some}
-use Rattle.round_core.specs.declared.round.Task.TheVariants.{Sealing}
-use Rattle.round_core.specs.Answer.{joined}
-use Rattle.round_core.specs.Values.{values_of}
-use Rattle.round_core.specs.Views.{RoundView}
+use Rattle.worker_core.specs.declared.round.Task.TheVariants.{Sealing}
+use Rattle.worker_core.specs.Answer.{joined}
+use Rattle.worker_core.specs.Values.{values_of}
+use Rattle.worker_core.specs.Views.{RoundView}
 use Rattle.crew_core.specs.Rounds.{CanMake, round_count}
 use Rattle.crew_core.proofs.RoundLemmas.{can-less, count-within, sealed-next}
 use Rattle.crew_core.proofs.rounds.seal_rounds.Goals as goal

@@ -3,8 +3,8 @@ use Rattle.std.proofs.Common.{◌≡◌, ◌+◌, ◌≤◌, ◌++◌, length, m
 use Rattle.container_core.specs.Chunks.{body_length, chunk_count, chunks}
 use Rattle.container_core.specs.Container.{size_in}
 use Rattle.container_core.specs.Stream.{stream_by}
-use Rattle.round_core.specs.declared.round.Task.TheVariants.{Sealing}
-use Rattle.round_core.specs.Answer.{joined}
+use Rattle.worker_core.specs.declared.round.Task.TheVariants.{Sealing}
+use Rattle.worker_core.specs.Answer.{joined}
 use Rattle.crew_core.specs.Rounds.{CanMake, round_count}
 use Rattle.crew_core.proofs.rounds.seal_rounds.Given as goal
 

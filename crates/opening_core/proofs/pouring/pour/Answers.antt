@@ -1,7 +1,7 @@
 use Rattle.std.proofs.Common.{rules, ◌≡◌, ◌+◌, ◌<◌, length, drop, get_or, Some, None, subst}
 use Rattle.output_core.specs.Bounds.{Admits}
 use Rattle.output_core.proofs.BoundLemmas.{admits_front, admits_rest, admits_same}
-use Rattle.round_core.specs.Answer.{joined}
+use Rattle.worker_core.specs.Answer.{joined}
 use Rattle.opening_core.proofs.PourLemmas.{joined-rest, joined-skip, poured-front, poured-more, poured-none}
 use Rattle.opening_core.proofs.pouring.pour.Goals.{in-Some+in-Ok, in_default}
 use Rattle.opening_core.proofs.pouring.pour.Goals as goal

@@ -4,8 +4,8 @@ use Rattle.container_core.specs.Chunks.{sealed_chunks}
 use Rattle.container_core.specs.Container.{size_in}
 use Rattle.container_core.specs.Opening.{unsealed_by}
 use Rattle.io_core.specs.Streams.{Consumes, IsAtEnd}
-use Rattle.round_core.specs.Answer.{joined}
-use Rattle.round_core.specs.declared.round.Task.TheVariants.{Opening}
+use Rattle.worker_core.specs.Answer.{joined}
+use Rattle.worker_core.specs.declared.round.Task.TheVariants.{Opening}
 use Rattle.opening_core.specs.Windows.{IsReady}
 use Rattle.opening_core.proofs.OpeningRounds.{OpensBehind}
 use Rattle.opening_core.proofs.SentLemmas.{Sent}

@@ -1,7 +1,7 @@
 use Rattle.std.proofs.Common.{rules, ◌≡◌, true, inr, Ok, length, ap, sym, ◌∙◌, arith}
 use Rattle.io_core.specs.Streams.{Appends}
-use Rattle.round_core.specs.Answer.{joined}
-use Rattle.round_core.specs.Values.{values_of}
+use Rattle.worker_core.specs.Answer.{joined}
+use Rattle.worker_core.specs.Values.{values_of}
 use Rattle.std.proofs.lemmas.Result.{IfErr-at_err}
 use Rattle.container_core.specs.Chunks.{body_length}
 use Rattle.container_core.specs.Container.{size_in}

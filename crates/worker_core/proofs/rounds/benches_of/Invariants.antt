@@ -1,5 +1,5 @@
 use Rattle.std.proofs.Common.{◌≡◌, [], All, vec_len}
-use Rattle.round_core.specs.Pieces.{all_made}
+use Rattle.worker_core.specs.Pieces.{all_made}
 use Rattle.worker_core.specs.Crew.{IsOfCrew}
 use Rattle.worker_core.proofs.rounds.benches_of.Given as goal
 

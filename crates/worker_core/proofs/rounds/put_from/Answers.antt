@@ -1,5 +1,5 @@
 use Rattle.std.proofs.Common.{length, map, ap, sym, ◌∙◌}
-use Rattle.round_core.specs.Pieces.{emptied}
+use Rattle.worker_core.specs.Pieces.{emptied}
 use Rattle.worker_core.proofs.Making.{all_back, emptied_length}
 use Rattle.worker_core.proofs.rounds.put_from.Goals as goal
 

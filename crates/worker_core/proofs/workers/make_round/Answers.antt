@@ -1,5 +1,5 @@
 use Rattle.std.proofs.Common.{◌≡◌, ◌++◌, List, sym, subst, take-append-drop, All}
-use Rattle.round_core.specs.Views.{BenchView}
+use Rattle.worker_core.specs.Views.{BenchView}
 use Rattle.worker_core.specs.Crew.{IsReady}
 use Rattle.worker_core.proofs.Making.{made_beside, worked_append, worked_whole, all_idle, all_behind}
 use Rattle.worker_core.proofs.workers.make_round.Goals as goal

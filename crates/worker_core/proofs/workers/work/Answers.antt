@@ -1,6 +1,6 @@
 use Rattle.std.proofs.Common.{rules, ◌++◌, ◌∷◌, [], ℕ, List, map, sym, ap, ◌∙◌}
 use Rattle.claim_core.specs.Claims.{ClaimantView}
-use Rattle.round_core.specs.Pieces.{number_of, piece_of}
+use Rattle.worker_core.specs.Pieces.{number_of, piece_of}
 use Rattle.worker_core.proofs.Making.{worked_more, worked_none, numbers_append}
 use Rattle.worker_core.proofs.workers.work.Goals as goal
 

@@ -1,7 +1,7 @@
 -- What the worker drew is what it made.
 use Rattle.std.proofs.Common.{◌≡◌, map}
 use Rattle.claim_core.specs.Claims.{IsOf}
-use Rattle.round_core.specs.Pieces.{number_of}
+use Rattle.worker_core.specs.Pieces.{number_of}
 use Rattle.worker_core.specs.Crew.{IsWorked}
 use Rattle.worker_core.proofs.workers.work.Given as goal
 

@@ -1,6 +1,6 @@
 use Rattle.std.proofs.Common.{rules, ◌∷◌, [], ◌<◌, ◌+◌, ℕ, List, map, refl, subst, sym, ap, ◌∙◌, arith, length, length-append}
-use Rattle.round_core.specs.Pieces.{number_of, piece_of}
-use Rattle.round_core.specs.Views.{MadeView}
+use Rattle.worker_core.specs.Pieces.{number_of, piece_of}
+use Rattle.worker_core.specs.Views.{MadeView}
 use Rattle.claim_core.specs.Claims.{times}
 use Rattle.worker_core.proofs.Making.{all_below_more, worked_more, worked_none}
 use Rattle.worker_core.proofs.workers.work_alone.Goals as goal

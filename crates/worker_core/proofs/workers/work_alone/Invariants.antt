@@ -1,7 +1,7 @@
 -- The pieces made so far, and no other.
 use Rattle.std.proofs.Common.{◌≡◌, ◌<◌, ℕ, length, map}
 use Rattle.claim_core.specs.Claims.{times}
-use Rattle.round_core.specs.Pieces.{number_of}
+use Rattle.worker_core.specs.Pieces.{number_of}
 use Rattle.worker_core.specs.Crew.{IsWorked}
 use Rattle.worker_core.proofs.workers.work_alone.Given as goal
 

@@ -1,5 +1,5 @@
 use Rattle.std.proofs.Common.{length, ap, sym, ◌∙◌, arith}
-use Rattle.round_core.specs.Pieces.{all_made}
+use Rattle.worker_core.specs.Pieces.{all_made}
 use Rattle.worker_core.specs.Crew.{CrewView}
 use Rattle.worker_core.proofs.Making.{crew_sizes, crew_same, emptied_crew, emptied_made, emptied_length}
 use Rattle.worker_core.proofs.rounds.Crew.put.Goals as goal

@@ -1,5 +1,0 @@
-pub mod ValueLemmas
-pub mod PlaceLemmas
-pub mod AnswerLemmas
-pub mod LawLemmas
-pub mod AppendLemmas

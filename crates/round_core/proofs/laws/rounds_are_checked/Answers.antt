@@ -1,5 +1,0 @@
-use Rattle.round_core.proofs.LawLemmas.{refused-checking}
-use Rattle.round_core.proofs.laws.rounds_are_checked.Goals as goal
-
-pub returns : goal.returns
-returns c = refused-checking

@@ -1,5 +1,0 @@
-use Rattle.round_core.proofs.LawLemmas.{named-opening}
-use Rattle.round_core.proofs.laws.rounds_are_opened.Goals as goal
-
-pub returns : goal.returns
-returns c = named-opening
