@@ -7,3 +7,4 @@ pub mod ReadingLemmas
 pub mod SentLemmas
 pub mod TakingLemmas
 pub mod TwiceLemmas
+pub mod ReadLemmas

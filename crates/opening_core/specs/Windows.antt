@@ -15,7 +15,7 @@ use Rattle.worker_core.specs.Parts.{room_of}
 use Rattle.worker_core.specs.Answer.{joined}
 use Rattle.worker_core.specs.Views.{PlacesView}
 use Rattle.worker_core.specs.Crew.{CrewView}
-use Rattle.window_core.specs.Windows.{WindowView}
+use Rattle.opening_core.specs.ReadAhead.{WindowView}
 use Rattle.opening_core.specs.Engine.{open_read_failed, open_write_failed}
 use Rattle.output_core.specs.Bounds.{Admits, Allows, Bound, Checked}
 

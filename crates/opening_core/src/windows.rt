@@ -25,6 +25,7 @@ ghost use Rattle.opening_core.specs.Windows.{IsReady, IsTakingFault, IsTurningFa
 use crate::front::{open_front, refuse};
 use crate::rooms::{Rooms, byte_behind};
 use crate::taking::Taking;
+use crate::window::Window;
 use claim_core::{Gate, MAX_WINDOW, MAX_WORKERS, usual_opening};
 use container_core::laws::{chunks_by_number, chunks_of_two_parts, rounds_open};
 use container_core::{Cut, Header, Key, MAX_CHUNKS, MAX_OPENED, OpenFault, TAG, begin_within};
@@ -32,7 +33,6 @@ use io_core::{Failed, Source};
 use std::alloc::{AllocError, Global};
 use std::mem;
 use std::thread::Threads;
-use window_core::Window;
 use worker_core::laws::{pieces_by_number, refused_pieces, rounds_are_checked, rounds_are_opened};
 use worker_core::{Places, Round, Task};
 

@@ -1,7 +1,7 @@
 use Rattle.std.proofs.Common.{rules, ◌≡◌, ◌+◌, ◌++◌, take, length, arith, ◌∙◌}
 use Rattle.std.proofs.KnownBytes.{Consumes-kept}
-use Rattle.window_core.proofs.ReadLemmas.{still_held, read_length, read_more}
-use Rattle.window_core.proofs.window.fill_upto.Goals as goal
+use Rattle.opening_core.proofs.ReadLemmas.{still_held, read_length, read_more}
+use Rattle.opening_core.proofs.window.fill_upto.Goals as goal
 
 pub returns-in-Err-clause-err : goal.returns-in-Err-clause-err
 returns-in-Err-clause-err g c =

@@ -26,7 +26,7 @@ pub struct Window {
 
 impl Model for Window {
     ghost use Rattle.std.specs.Prelude.{◌≤◌, take, vec_len, vec_capacity};
-    ghost use Rattle.window_core.specs.Windows.{WindowView};
+    ghost use Rattle.opening_core.specs.ReadAhead.{WindowView};
 
     ghost Value = { WindowView };
 

@@ -1,7 +1,7 @@
 -- The filled bytes were read after what was held, and no read failed.
 use Rattle.std.proofs.Common.{◌≡◌, ℕ, ◌≤◌, ◌-◌, ◌++◌, List, take, vec_len, vec_capacity}
 use Rattle.io_core.specs.Streams.{Consumes}
-use Rattle.window_core.proofs.window.fill_upto.Given as goal
+use Rattle.opening_core.proofs.window.fill_upto.Given as goal
 
 abbrev pub invariant-filling : goal.invariant-filling
 invariant-filling g l = record {
