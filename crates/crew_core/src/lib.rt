@@ -21,7 +21,7 @@ pub use claim_core::{
     DEFAULT_WINDOW, Free, Gate, MAX_LANES, MAX_WINDOW, MAX_WORKERS, usual_window,
 };
 pub use piece_core::{Kind, Piece, PutFault, Shelf, ShelfFault, Work};
-pub use pipe_core::{MAX_DEPTH, pipe};
+pub use sealing_core::{MAX_DEPTH, pipe};
 
 /// The most jobs of a batch.
 pub const MAX_JOBS: usize = 65_535;

@@ -1,7 +1,7 @@
 //! Audits: journals with verdicts derived by hand from the rules in docs/FORMATS.md.
-use engine_core::run_audit;
 use io_memory::{FromMemory, Schedule, ToMemory};
 use ledger_core::AuditFault;
+use sealing_core::run_audit;
 use std::alloc::Global;
 
 const JOURNAL: &str = "range 1 7 2 2\n0 issue 7\n1 issue 8\n0 issue none\n1 sealed 8\n0 void 7\n";

@@ -1,4 +1,4 @@
-//! Tests of `engine_core`: the engines with workers and those of one thread, and audits.
+//! Tests of `sealing_core` and `opening_core`: the engines with workers and those of one thread, and audits.
 #![tactic(auto)]
 
 #[cfg(test)]

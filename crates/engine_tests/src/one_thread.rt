@@ -6,9 +6,10 @@ use crate::containers::{ONE, OVER_STD, PLAIN};
 use container_core::{OpenFault, SealFault};
 use container_tests::EMPTY;
 use crew_tests::{PREFIX, counting_key};
-use engine_core::{open_one, seal_one, verify_one};
 use io_memory::{FromMemory, Schedule, ToMemory};
 use ledger_core::{FromRead, ToWrite};
+use opening_core::{open_one, verify_one};
+use sealing_core::seal_one;
 use std::alloc::Global;
 
 // The result of sealing from a reader that returns three bytes a call.

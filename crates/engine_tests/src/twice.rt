@@ -5,9 +5,9 @@ ghost use Rattle.io_core.specs.Streams.{counted};
 
 use container_core::{Key, MAX_OPENED, OpenFault, Shape, seal};
 use crew_core::{Free, MAX_WORKERS};
-use engine_core::{Readings, Stopped, run_check, run_open_twice, write_again};
 use io_core::{Failed, Source};
 use io_memory::{FromMemory, Schedule, ToMemory};
+use opening_core::{Readings, Stopped, run_check, run_open_twice, write_again};
 use output_tests::CheckedOutput;
 use std::alloc::Global;
 use std::test::Fail;

@@ -6,9 +6,10 @@ use crew_core::Free;
 use crew_tests::{
     ZERO_BYTES, ZEROS, ZEROS_SEALED, counting_key, grant_of, is_digest, sealed_zeros,
 };
-use engine_core::{run_open_by, run_seal_by, run_verify_by};
 use io_memory::{FromMemory, Schedule, ToMemory};
 use ledger_core::Way;
+use opening_core::{run_open_by, run_verify_by};
+use sealing_core::run_seal_by;
 use std::alloc::{AllocError, Global};
 use std::sync::Wait;
 use std::thread::Threads;

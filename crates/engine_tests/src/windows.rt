@@ -3,8 +3,8 @@
 use container_core::{CHUNK, HEADER, OpenFault, SEALED, Shape, open, seal};
 use crew_core::{Free, MAX_WINDOW, MAX_WORKERS};
 use crew_tests::{PREFIX, counting_key, flip, pattern};
-use engine_core::{run_open_by, run_plain_by, run_verify_by, verify_one};
 use io_memory::{FromMemory, Schedule, ToMemory};
+use opening_core::{run_open_by, run_plain_by, run_verify_by, verify_one};
 use std::alloc::Global;
 use std::test::Fail;
 use std::thread::Threads;

@@ -3,7 +3,7 @@ ghost use Rattle.std.specs.Prelude.{◌≡◌, ℕ, ◌<◌, ◌≤◌, List, dr
 ghost use Rattle.container_core.specs.Container.{hint_of};
 ghost use Rattle.opening_core.specs.Twice.{HasWrittenAgain, MayWrite};
 ghost use Rattle.output_core.specs.Bounds.{Admits};
-ghost use Rattle.pipe_core.specs.Pipe.{HasPiped, whole};
+ghost use Rattle.sealing_core.specs.Pipe.{HasPiped, whole};
 ghost use Rattle.folder_core.specs.Record.{bound_in};
 
 use claim_core::{Gate, MAX_DEPTH, MAX_WORKERS};
@@ -11,7 +11,7 @@ use container_core::{Header, Key, MAX_OPENED, SealFault};
 use folder_core::{Outputs, Rest, lent_of, taken_in_hand};
 use io_core::Source;
 use opening_core::{Stopped, write_again};
-use pipe_core::pipe;
+use sealing_core::pipe;
 use std::alloc::Global;
 use std::marker::Brand;
 use std::sync::Wait;
@@ -117,7 +117,7 @@ fn sealed_named<'a, N: Rest, T: Threads + Wait + Sync, R: Source, F: Outputs, G:
     (done, lent_of(output))
 }
 
-/// Seals a stream into the output in hand. See `pipe_core::pipe`.
+/// Seals a stream into the output in hand. See `sealing_core::pipe`.
 pub fn fill_sealed<T: Threads + Wait + Sync, R: Source, F: Outputs, G: Gate + Sync>(
     rt: &T,
     alloc: Global,

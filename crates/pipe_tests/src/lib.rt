@@ -1,5 +1,5 @@
-//! Tests of `pipe_core`: streams sealed through `run_pipe` with 1 to 16 workers, and files in small chunks. Readers and
-//! writers are in memory.
+//! Tests of `sealing_core`: streams sealed through `run_pipe` with 1 to 16 workers, and files in small chunks. Readers
+//! and writers are in memory.
 #![tactic(auto)]
 
 #[cfg(test)]

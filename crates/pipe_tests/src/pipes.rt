@@ -5,11 +5,10 @@ ghost use Rattle.container_core.specs.Container.{hint_of};
 
 use container_core::{Header, Key, MAX_PLAIN, SealFault, Shape, seal};
 use crew_tests::{PREFIX, counting_key, grant_of};
-use engine_core::run_pipe;
 use io_core::{Sink, Source};
 use io_memory::{FromMemory, Schedule, ToMemory};
 use ledger_core::Way;
-use pipe_core::{MAX_DEPTH, pipe_rounds};
+use sealing_core::{MAX_DEPTH, pipe_rounds, run_pipe};
 use sha2::{Digest, Sha256};
 use std::alloc::Global;
 use std::sync::Wait;

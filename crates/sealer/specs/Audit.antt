@@ -2,7 +2,7 @@
 use Rattle.std.specs.Prelude.{◌≡◌, ◌⊎◌, ◌∷◌, ◌++◌, ℕ, Bool, List, [], Option, IfSome, codes, false}
 use Rattle.clap.specs.declared.parser.matches.ArgMatches.{ArgMatches}
 use Rattle.command_line.specs.Given.{IsFlag}
-use Rattle.engine_core.specs.Status.{status_of}
+use Rattle.sealing_core.specs.Status.{status_of}
 use Rattle.io_core.specs.Streams.{Appends}
 use Rattle.journal_core.specs.declared.verdict.Verdict.{Verdict}
 use Rattle.ledger_core.specs.Verdict.{IsVerdict, verdict_text}

@@ -10,7 +10,7 @@ use Rattle.container_core.specs.declared.fault.SealFault.{SealFault}
 use Rattle.container_core.specs.declared.fault.SealFault.TheVariants as sealing_fault
 use Rattle.ledger_core.specs.declared.fault.IssueFault.{IssueFault}
 use Rattle.ledger_core.specs.declared.fault.IssueFault.TheVariants as issue_fault
-use Rattle.engine_core.specs.Engine.{BeginsContainer}
+use Rattle.sealing_core.specs.Engine.{BeginsContainer}
 use Rattle.io_core.specs.Streams.{Appends, AppendsFront, Keeps}
 use Rattle.journal_core.specs.Range.{prefix_of}
 use Rattle.command_core.specs.declared.folder.FolderFault.{FolderFault}

@@ -16,7 +16,7 @@ use Rattle.journal_core.specs.Range.{IsLawfulRange, Numbers, prefix_of}
 use Rattle.sha2.specs.Sha256.{sha256}
 use Rattle.sqlite.specs.Held.{Held}
 use Rattle.sqlite_trees.specs.declared.store.Store.{Ghosts}
-use Rattle.engine_core.specs.Piped.{HasPipedContainer}
+use Rattle.sealing_core.specs.Piped.{HasPipedContainer}
 use Rattle.container_core.specs.declared.fault.SealFault.{SealFault}
 use Rattle.container_core.specs.Container.{container}
 use Rattle.container_core.specs.Shape.{ShapeView}

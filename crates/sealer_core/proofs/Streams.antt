@@ -2,7 +2,7 @@
 use Rattle.std.proofs.Common.{◌≡◌, ℕ, List, [], ◌∷◌, Option, refl, sym, subst}
 use Rattle.std.proofs.Common.{Result, Ok, Err}
 use Rattle.container_core.specs.declared.fault.SealFault.{SealFault}
-use Rattle.engine_core.specs.Piped.{HasPipedContainer}
+use Rattle.sealing_core.specs.Piped.{HasPipedContainer}
 use Rattle.container_core.specs.Shape.{ShapeView}
 use Rattle.journal_core.specs.declared.entry.Entry.{Entry}
 use Rattle.journal_core.specs.Range.{prefix_of}

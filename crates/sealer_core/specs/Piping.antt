@@ -2,7 +2,7 @@
 use Rattle.std.specs.Prelude.{◌≡◌, ℕ, List, [], ◌∷◌, codes, Option, Ok, Err}
 use Rattle.container_core.specs.Shape.{ShapeView}
 use Rattle.container_core.specs.declared.fault.SealFault.TheVariants as sealing_fault
-use Rattle.engine_core.specs.Piped.{HasPipedContainer}
+use Rattle.sealing_core.specs.Piped.{HasPipedContainer}
 use Rattle.journal_core.specs.declared.entry.Entry.{Entry}
 use Rattle.journal_core.specs.declared.terms.Terms.{Terms}
 use Rattle.journal_core.specs.History.{Legal}

@@ -1,9 +1,9 @@
 //! The sealer as a library: what the commands do, but `ledger` and `show`, over any reader and any writer.
 //!
-//! `seal_all` and `pipe_all` are here, with the theorems over their runs (`theorem`). `engine_core` has the engines.
-//! `command_core` has `open_all`, `verify_all`, `unpipe_all`, and the folders and lines of all commands. `life_core`
-//! has the laws on the life of a ledger file. `front_core` says what must hold before a container begins.
-//! `reserve_core` has the keeper of the ledger file, and its witness.
+//! `seal_all` and `pipe_all` are here, with the theorems over their runs (`theorem`). The engines are in `sealing_core`
+//! and `opening_core`. `command_core` has `open_all`, `verify_all`, `unpipe_all`, and the folders and lines of all
+//! commands. `life_core` has the laws on the life of a ledger file. `front_core` says what must hold before a container
+//! begins. `reserve_core` has the keeper of the ledger file, and its witness.
 #![tactic(auto)]
 
 mod ending;
@@ -25,11 +25,11 @@ pub use command_core::{
     UnpipeOptions, open_all, read_key, unpipe_all, verify_all,
 };
 pub use crew_core::{MAX_DEPTH, MAX_LANES, MAX_WINDOW, MAX_WORKERS};
-pub use engine_core::{
-    open_one, run_audit, run_open, run_open_by, run_pipe, run_plain, run_plain_by, run_seal,
-    run_seal_by, run_verify, run_verify_by, seal_one, verify_one,
-};
 pub use front_core::{SealingFolder, SealingStream};
 pub use life_core as laws;
+pub use opening_core::{
+    open_one, run_open, run_open_by, run_plain, run_plain_by, run_verify, run_verify_by, verify_one,
+};
 pub use output_core::Output;
 pub use reserve_core::{LedgerFile, Unrecorded, Unwitnessed, Witness};
+pub use sealing_core::{run_audit, run_pipe, run_seal, run_seal_by, seal_one};

@@ -6,7 +6,7 @@ ghost use Rattle.sealer_core.specs.Group.{AreBegun, IsBegunWith, name_of, IsPrep
 use crate::lane::{begin_file, is_too_long};
 use command_core::{FileFault, Folder, MAX_BYTES};
 use container_core::SealFault;
-use engine_core::read_plain;
+use sealing_core::read_plain;
 use std::alloc::{AllocError, Global};
 use std::collections::VecDeque;
 

@@ -1,3 +1,0 @@
-pub mod Engine
-pub mod Piped
-pub mod Status

@@ -1,0 +1,11 @@
+pub mod BlockLemmas
+pub mod ChunkLemmas
+pub mod IntakeLemmas
+pub mod MayLemmas
+pub mod Moves
+pub mod Orders
+pub mod PieceLemmas
+pub mod RoundLemmas
+pub mod StreamLemmas
+pub mod Sums
+pub mod PipeLemmas

@@ -1,0 +1,10 @@
+use Rattle.crossbeam_queue.specs.Passes.{view, IsPassOf}
+use Rattle.sealing_core.specs.Hands.{HasRelayed}
+use Rattle.sealing_core.proofs.worker.worker.Given as goal
+
+abbrev pub invariant-loop : goal.invariant-loop
+invariant-loop g l = record {
+  jobs : IsPassOf l.jobs l.from;
+  pieces : IsPassOf l.pieces l.into;
+  relayed : HasRelayed 1 (view l.from) (view l.into);
+}

@@ -1,0 +1,10 @@
+pub mod Hands
+pub mod Intake
+pub mod Order
+pub mod Pieces
+pub mod Pipe
+pub mod Round
+pub mod Rounds
+pub mod Engine
+pub mod Piped
+pub mod Status
