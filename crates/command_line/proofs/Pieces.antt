@@ -3,7 +3,7 @@ use Rattle.std.proofs.Common.{◌≡◌, ◌≢◌, ◌∙◌, ℕ, zero, suc, L
 use Rattle.std.specs.List.{All}
 use Rattle.std.proofs.lemmas.List.{map-append}
 use Rattle.std.proofs.lemmas.List.Elements.{All-append}
-use Rattle.path_core.specs.Quotes.{quoted}
+use Rattle.folder_core.specs.Quotes.{quoted}
 use Rattle.command_line.specs.Names.{ended, ArePiecesOf}
 use Rattle.command_line.proofs.Ended.{ended-more}
 

@@ -7,11 +7,11 @@ ghost use Rattle.clap.specs.Matches.{first_value, found_of, one_text};
 ghost use Rattle.std.specs.List.{All};
 ghost use Rattle.command_line.specs.Asked.{IsNaming, dashes};
 ghost use Rattle.command_line.specs.Names.{ArePieces, ArePiecesOf, IsListOf, IsListed};
-ghost use Rattle.path_core.specs.Quotes.{quoted};
+ghost use Rattle.folder_core.specs.Quotes.{quoted};
 
 use crate::fault::UsageFault;
 use clap::ArgMatches;
-use path_core::quote;
+use folder_core::quote;
 use std::alloc::Global;
 
 /// The list of names that is asked for.

@@ -1,6 +1,6 @@
 //! Names as lines show them. All values are written by hand.
 
-use path_core::{quote, unquote};
+use folder_core::{quote, unquote};
 use std::alloc::{AllocError, Global};
 
 // Names, with what a line shows of each.

@@ -1,3 +1,7 @@
 pub mod Record
 pub mod Changes
 pub mod Spooling
+pub mod Journals
+pub mod Places
+pub mod Quotes
+pub mod Trees

@@ -1,4 +1,7 @@
-//! Files that are read twice: `reader`, and `spool` for what can be read only once.
+//! What a command may ask of a file system, and names.
+//!
+//! Files that are read twice: `reader`, and `spool` for what can be read only once. Names: `places` and `trees` have the
+//! base names and places of paths, for outputs in or below one folder, and `quotes` names as a line shows them.
 //!
 //! The record of a run: which files were read, and what its outputs hold, at every moment. This part is proof only, and
 //! no command uses it yet. Begin with `folder`. An engine writes to the output in hand of a folder through `hand`.
@@ -7,12 +10,20 @@
 pub mod fault;
 pub mod folder;
 pub mod hand;
+mod journals;
 pub mod laws;
+mod places;
+pub mod quotes;
 pub mod reader;
 pub mod spool;
+mod trees;
 
 pub use crate::fault::FolderFault;
 pub use crate::folder::{Folder, OpeningFolder, Outputs, Place, Whole};
 pub use crate::hand::{InHand, Rest, lent_of, taken_in_hand};
+pub use crate::journals::journal_name;
+pub use crate::places::{PlaceFault, are_apart, last_name, put_below};
+pub use crate::quotes::{quote, unquote};
 pub use crate::reader::{FileReader, WholeFile};
 pub use crate::spool::{Spool, Spooled};
+pub use crate::trees::{are_placed_apart, first_part, place_of, put_placed};

@@ -4,12 +4,12 @@
 ghost use Rattle.std.specs.Prelude.{if◌then◌else◌, ◌<◌, ◌≡◌, ◌∷◌, ◌++◌, [], ℕ, IfNone, IfOk, IfSome, List, OnErr, OnOk, length, map, string_bytes};
 ghost use Rattle.line_core.specs.Listed.{finding_front, finding_line, finding_numbers, finding_object, finding_status};
 ghost use Rattle.line_core.specs.Listed.{found_of, judged, line_words, listed_at, listings, missing_of, outputs_of, said, value_member, with_met};
-ghost use Rattle.path_core.specs.Places.{IsLastName};
+ghost use Rattle.folder_core.specs.Places.{IsLastName};
 
 use crate::json::{push_number, push_text};
 use crate::message::{Message, message_of};
 use crate::objects::push_head;
-use path_core::{last_name, place_of};
+use folder_core::{last_name, place_of};
 use std::alloc::{AllocError, Global};
 use std::collections::BTreeMap;
 use std::str::from_utf8;

@@ -7,7 +7,7 @@ use Rattle.command_line.specs.Asked.{IsNaming}
 use Rattle.command_line.specs.Names.{ArePieces, IsListed}
 use Rattle.command_line.specs.declared.names.Naming.{Naming}
 use Rattle.command_line.specs.declared.names.Naming.TheVariants.{KeepGoing, Quoted, Plain}
-use Rattle.path_core.specs.Quotes.{quoted}
+use Rattle.folder_core.specs.Quotes.{quoted}
 
 -- what ends each name of a list: a byte 0 with `--null`, else a line feed
 pub record IsSeparator (matches : ArgMatches) (separator : ℕ) : Type 0 where

@@ -3,7 +3,7 @@ ghost use Rattle.std.specs.Prelude.{◌<◌, ◌≡◌, ◌++◌, ℕ, IfErr, If
 ghost use Rattle.std.specs.Prelude.{unwrap_or};
 ghost use Rattle.command_line.specs.Given.{files_given};
 ghost use Rattle.command_line.specs.Names.{ArePieces, IsListed};
-ghost use Rattle.path_core.specs.Quotes.{quoted};
+ghost use Rattle.folder_core.specs.Quotes.{quoted};
 ghost use Rattle.sealer.specs.Names.{IsListText};
 
 use crate::telling::tell_bad;

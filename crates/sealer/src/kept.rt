@@ -1,8 +1,8 @@
 //! Which FILEs a run processes: all, or with `--skip-existing` those whose output doesn't exist yet.
 ghost use Rattle.std.specs.Prelude.{◌≡◌, ◌≢◌, ℕ, IfErr, IfOk, List, OnOk, [], false, map, true};
 ghost use Rattle.std.specs.List.{AllPairs};
-ghost use Rattle.path_core.specs.Places.{AreApart};
-ghost use Rattle.path_core.specs.Trees.{places};
+ghost use Rattle.folder_core.specs.Places.{AreApart};
+ghost use Rattle.folder_core.specs.Trees.{places};
 ghost use Rattle.io_core.specs.Streams.{Appends};
 ghost use Rattle.system_files.specs.Kept.{IsSplit, kept_text};
 ghost use Rattle.system_files.specs.declared.names.Target.TheVariants.{Into, Tree};

@@ -3,8 +3,8 @@
 use crate::{FAULT, complain, explain};
 use clap::ArgMatches;
 use command_line::{Naming, Printing, UsageFault, device_asked, naming_asked, printing_asked};
+use folder_core::quote;
 use line_core::{Command, Listed};
-use path_core::quote;
 use std::alloc::{AllocError, Global};
 use std::io::{ErrorKind, Read};
 use std::rt::Files;

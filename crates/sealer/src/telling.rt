@@ -8,7 +8,7 @@ use clap::ArgMatches;
 use command_line::{
     BadPiece, Naming, PieceFault, Reading, UsageFault, bad_pieces, list_request, naming_asked,
 };
-use path_core::{quote, unquote};
+use folder_core::{quote, unquote};
 use std::alloc::{AllocError, Global};
 use std::collections::BTreeMap;
 use system_files::{Destination, Names, PlaceFault, Target, output_key};

@@ -6,7 +6,7 @@
 use crate::cause::Cause;
 use crate::names::Target;
 use crate::outputs::folder_and_name;
-use path_core::first_part;
+use folder_core::first_part;
 use std::alloc::Global;
 use std::fs;
 use std::fs::{DirBuilder, File, Metadata, OpenFile};

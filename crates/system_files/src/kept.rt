@@ -5,8 +5,8 @@ ghost use Rattle.system_files.specs.Kept.{IsSplit, kept_line, kept_text};
 
 use crate::folders::take_way;
 use crate::names::{Names, Target, path_of};
+use folder_core::{last_name, place_of};
 use ledger_core::{Failed, Sink, write_all};
-use path_core::{last_name, place_of};
 use std::alloc::{AllocError, Global};
 use std::collections::BTreeSet;
 use std::fs;

@@ -28,4 +28,4 @@ pub use crate::names::{Names, Target, target_of};
 pub use crate::own::{OwnPaths, StandardInput};
 pub use crate::progress::{Progress, Told};
 pub use crate::spool::{FileSpool, is_folder, spool_folder};
-pub use path_core::{PlaceFault, are_apart, are_placed_apart, last_name};
+pub use folder_core::{PlaceFault, are_apart, are_placed_apart, last_name};

@@ -1,8 +1,8 @@
 //! The paths that a run's names denote, and where its outputs go.
 ghost use Rattle.std.specs.Prelude.{◌≡◌, IfSome, None, Some, false, string_bytes, true};
-ghost use Rattle.path_core.specs.Quotes.{unquoted};
+ghost use Rattle.folder_core.specs.Quotes.{unquoted};
 
-use path_core::{put_below, put_placed, unquote};
+use folder_core::{put_below, put_placed, unquote};
 use std::alloc::Global;
 use std::fs;
 use std::fs::Metadata;

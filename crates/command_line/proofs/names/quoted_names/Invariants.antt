@@ -1,5 +1,5 @@
 use Rattle.std.proofs.Common.{◌≡◌, ◌++◌, drop, map, string_bytes}
-use Rattle.path_core.specs.Quotes.{quoted}
+use Rattle.folder_core.specs.Quotes.{quoted}
 use Rattle.command_line.proofs.Ended.{texts}
 use Rattle.command_line.proofs.names.quoted_names.Given as goal
 

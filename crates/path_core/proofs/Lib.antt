@@ -1,9 +1,0 @@
-pub mod Back
-pub mod Distinct
-pub mod Ending
-pub mod Line
-pub mod Names
-pub mod Other
-pub mod Parts
-pub mod Read
-pub mod Shown

@@ -1,5 +1,0 @@
-use Rattle.path_core.proofs.Line.{in_one_line}
-use Rattle.path_core.proofs.laws.a_name_adds_no_line.Goals as goal
-
-pub returns : goal.returns
-returns c = in_one_line

@@ -1,5 +1,0 @@
-use Rattle.path_core.proofs.Parts.{stays_below}
-use Rattle.path_core.proofs.laws.a_place_stays_below.Goals as goal
-
-pub returns : goal.returns
-returns c = stays_below

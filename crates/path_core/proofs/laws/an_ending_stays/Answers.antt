@@ -1,5 +1,0 @@
-use Rattle.path_core.proofs.Ending.{ending_stays}
-use Rattle.path_core.proofs.laws.an_ending_stays.Goals as goal
-
-pub returns : goal.returns
-returns c = ending_stays

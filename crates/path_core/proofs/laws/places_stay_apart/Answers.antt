@@ -1,5 +1,0 @@
-use Rattle.path_core.proofs.Parts.{stay_apart}
-use Rattle.path_core.proofs.laws.places_stay_apart.Goals as goal
-
-pub returns : goal.returns
-returns c = stay_apart

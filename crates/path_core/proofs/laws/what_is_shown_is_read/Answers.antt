@@ -1,5 +1,0 @@
-use Rattle.path_core.proofs.Back.{read_back}
-use Rattle.path_core.proofs.laws.what_is_shown_is_read.Goals as goal
-
-pub returns : goal.returns
-returns c = read_back

@@ -1,4 +1,0 @@
-pub mod Journals
-pub mod Places
-pub mod Quotes
-pub mod Trees
