@@ -9,7 +9,7 @@ use ledger_core::{FromRead, ToWrite};
 use sealer_core::run_audit;
 use std::io::{Read, Write};
 use std::rt::Files;
-use system_headers::{Keeping, SealedNumbers};
+use system_files::{Keeping, SealedNumbers};
 
 /// Audits an input. With `--against` the numbers that a legal journal settles as sealed are compared with those of
 /// containers. Returns the status, with the streams.

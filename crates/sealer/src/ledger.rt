@@ -12,8 +12,7 @@ use ledger_core::Sink;
 use std::alloc::Global;
 use std::io::{Read, Write};
 use std::rt::Files;
-use system_files::{About, Step};
-use system_headers::KeyAlone;
+use system_files::{About, KeyAlone, Step};
 use system_ledger::{Holding, read_holdings};
 
 /// Prints a line for each key and device of a ledger file, or of one key alone. With `--against` it then prints a line

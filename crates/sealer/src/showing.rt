@@ -12,8 +12,7 @@ use sealer_core::{FileFault, FileOutcome, Line};
 use std::alloc::Global;
 use std::io::{Read, Write};
 use std::rt::Files;
-use system_files::{About, Cause, cause_of};
-use system_headers::{SealedNumbers, Seen, Shown, look_at};
+use system_files::{About, Cause, SealedNumbers, Seen, Shown, cause_of, look_at};
 use system_ledger::{Holding, is_older};
 use thiserror::Error;
 

@@ -1,7 +1,7 @@
 use Rattle.std.proofs.Common.{take}
 use Rattle.std.specs.Fmt.{HasWritten, IsPlainFormatter}
-use Rattle.system_headers.specs.Shown.{hex_text}
-use Rattle.system_headers.proofs.shown.write_hex.Given as goal
+use Rattle.system_files.specs.Shown.{hex_text}
+use Rattle.system_files.proofs.shown.write_hex.Given as goal
 
 abbrev pub invariant-bytes : goal.invariant-bytes
 invariant-bytes g l =

@@ -8,7 +8,7 @@ ghost use Rattle.container_core.specs.Cutting.{RefusesCut};
 ghost use Rattle.container_core.specs.declared.fault.OpenFault.{OpenFault};
 ghost use Rattle.container_core.specs.Opening.{header_fault};
 ghost use Rattle.container_core.specs.Stream.{prefix_in};
-ghost use Rattle.system_headers.specs.Seen.{fault_one, fault_seen, fault_two};
+ghost use Rattle.system_files.specs.Seen.{fault_one, fault_seen, fault_two};
 
 use command_core::Facts;
 use container_core::{

@@ -1,6 +1,6 @@
 //! Looks at the container at a path: its header, and how long the file is.
 ghost use Rattle.std.specs.Prelude.{IfErr};
-ghost use Rattle.system_headers.specs.Seen.{IsOfLooking};
+ghost use Rattle.system_files.specs.Seen.{IsOfLooking};
 
 use crate::seen::{Seen, plain_in, read_seen};
 use command_core::FileFault;

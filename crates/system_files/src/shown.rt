@@ -2,7 +2,7 @@
 ghost use Rattle.std.specs.Prelude.{◌<◌, ◌≡◌, Some, false};
 ghost use Rattle.std.specs.Fmt.{WritesOnOk, digit_glyph};
 ghost use Rattle.command_core.specs.Facts.{label_part};
-ghost use Rattle.system_headers.specs.Shown.{alone_text, bytes_text, hex_byte, hex_text};
+ghost use Rattle.system_files.specs.Shown.{alone_text, bytes_text, hex_byte, hex_text};
 
 use crate::seen::Seen;
 use command_core::{Facts, ShownLabel};

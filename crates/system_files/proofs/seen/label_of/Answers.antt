@@ -1,6 +1,6 @@
 use Rattle.std.proofs.Common.{◌≡◌, ◌-◌, rules, drop, length, sym, arith}
 use Rattle.std.proofs.lemmas.List.{drop_all, length-drop, take_all}
-use Rattle.system_headers.proofs.seen.label_of.Goals as goal
+use Rattle.system_files.proofs.seen.label_of.Goals as goal
 
 pub returns-then-header-gt25-clause-value : goal.returns-then-header-gt25-clause-value
 returns-then-header-gt25-clause-value c =

@@ -3,8 +3,8 @@ use Rattle.std.proofs.lemmas.Slice.Eq.{bytes_eq-Decides}
 use Rattle.std.specs.Str.{bytes_eq}
 use Rattle.container_core.specs.Container.{hint_of}
 use Rattle.container_core.specs.Opening.{header_fault, header_fault_one, header_fault_two}
-use Rattle.system_headers.specs.Seen.{fault_one, fault_seen, fault_two}
-use Rattle.system_headers.proofs.seen.read_seen.Goals as goal
+use Rattle.system_files.specs.Seen.{fault_one, fault_seen, fault_two}
+use Rattle.system_files.proofs.seen.read_seen.Goals as goal
 
 pub same : (key bytes : List ℕ) → hint_of key ≡ take 7 (drop 17 bytes) → header_fault key bytes ≡ fault_seen bytes
 unfolding header_fault header_fault_one header_fault_two fault_seen fault_one fault_two
