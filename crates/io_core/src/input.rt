@@ -45,11 +45,13 @@ pub fn fill<R: Source>(source: &mut R, buffer: &mut [u8]) -> Result<usize, Faile
 const WINDOW: usize = 1 << 14;
 
 /// Reads to the end of an input of at most `max` bytes. From a longer input it reads exactly `max` + 1 bytes, and
-/// returns `TooLong`.
+/// returns `TooLong`. Room for `expected` bytes, or for `max` if that is less, is taken first, so that an input of this
+/// length is copied once. It may have another.
 pub fn read_to_limit<R: Source>(
     alloc: Global,
     source: &mut R,
     max: u64,
+    expected: u64,
 ) -> Result<Vec<u8>, ReadFault>
     requires { max < 2 ^ 63 }
     ensures bytes { IfOk result (λ bytes. Consumes (R.left source.old) (R.left source.new) bytes.items) }
@@ -61,7 +63,9 @@ pub fn read_to_limit<R: Source>(
     ensures count { R.failures source.new ≡ counted (is_read result) (R.failures source.old) }
 {
     let limit = max as usize + 1;
-    let mut bytes = Vec::new(alloc);
+    let Ok(mut bytes) = Vec::with_capacity(alloc, expected.min(max) as usize) else {
+        return Err(ReadFault::OutOfMemory);
+    };
     let mut window = [0; WINDOW];
     while bytes.len() < limit {
         let most = (limit - bytes.len()).min(WINDOW);

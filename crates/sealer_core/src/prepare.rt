@@ -61,7 +61,8 @@ fn prepare_file<'a, F: Folder>(
     if is_too_long(folder, &reader, max_bytes) {
         return Prepared::Unread(name, writer, SealFault::TooLong);
     }
-    let plain = match read_plain(alloc, &mut reader, max_bytes) {
+    let expected = folder.length(&reader).unwrap_or(0);
+    let plain = match read_plain(alloc, &mut reader, max_bytes, expected) {
         Ok(plain) => plain,
         Err(fault) => return Prepared::Unread(name, writer, fault),
     };
