@@ -257,8 +257,8 @@ fn number_of(name: &str) -> u64 {
     number
 }
 
-// Whether a file can have a second name. The name is removed again. It can't if the file system has no links, or the
-// folder doesn't let a name be removed.
+// Whether a file can have a second name. The name is removed again. It can't if the file system has no links, the folder
+// doesn't let a name be removed, or the name's path is too long.
 fn has_links<R: Files>(rt: &R, name: &str, second: &str) -> Result<bool, Cause> {
     match fs::hard_link(rt, name, second) {
         Ok(()) if fs::remove_file(rt, second).is_ok() => Ok(true),
@@ -268,9 +268,11 @@ fn has_links<R: Files>(rt: &R, name: &str, second: &str) -> Result<bool, Cause> 
             Ok(false)
         }
         Err(error) => match error.kind() {
-            ErrorKind::PermissionDenied | ErrorKind::Unsupported | ErrorKind::TooManyLinks => {
-                Ok(false)
-            }
+            ErrorKind::PermissionDenied
+            | ErrorKind::Unsupported
+            | ErrorKind::TooManyLinks
+            // The second name is a byte longer than a part's, which has the longest path that is allowed.
+            | ErrorKind::InvalidFilename => Ok(false),
             _ => Err(Cause::of(&error)),
         },
     }
