@@ -54,8 +54,8 @@ FAULTS["brk"] = ("retval=0",)
 OTHERS = "execve access arch_prctl set_tid_address set_robust_list rseq prlimit64 getrandom futex rt_sigaction rt_sigprocmask exit exit_group".split()
 # An error of these can't be passed over. A FILE in which the first lseek fails is read once, or kept.
 MUST_SHOW = {call: ("error=EIO", "error=ENOSPC") for call in ("read", "write")}
-# `long` has more than 1 MiB: so it is worth two workers to `open` and `verify`.
-PLAIN = {"small": b"".join(b"%d\n" % i for i in range(1, 401)), "long": b"".join(b"%d\n" % i for i in range(1, 170_001))}
+# `long` has more than 2 MiB: so it is worth two workers to `open` and `verify`.
+PLAIN = {"small": b"".join(b"%d\n" % i for i in range(1, 401)), "long": b"".join(b"%d\n" % i for i in range(1, 320_001))}
 PLAIN["large"] = bytes(range(256)) * (17 << 12)
 NAMES = ["small.stm", "long.stm"]
 VERDICT = "legal: 2 granted, 1 sealed, 1 void, 0 open, 1 refused"
@@ -71,7 +71,7 @@ WAYS.update({
 })
 # Which file is standard input, if it isn't long.stm, and how many chunk the damaged one has.
 INPUTS = {"unpipe a damaged stream": "damaged.stm", SPOOLING: "large.stm"}
-DAMAGED = "chunk 16 does not check"
+DAMAGED = "chunk 32 does not check"
 
 
 def read(name):

@@ -722,23 +722,23 @@ sealed files/b file 1 bytes 1492' ''
     # How many threads are started: a group has a lane for each of its files that are worth one, the caller's thread among them.
     fresh
     started() { strace -f -e trace=clone,clone3 -o calls "$sealer" seal --key "$key" --ledger files/l --device 1 "$@" > out 2> err; status=$?; }
-    for name in a b c d; do head -c 32768 /dev/zero > "files/$name"; done
+    for name in a b c d; do head -c 262144 /dev/zero > "files/$name"; done
     started --lanes 4 files/a files/b files/c files/d
     is lanes-of-a-group test "$status $(grep -c 'clone3\?(' calls)" = '0 3'
     rm files/*.stm
     started --lanes 2 files/a files/b files/c files/d
     is lanes-of-two-groups test "$status $(grep -c 'clone3\?(' calls)" = '0 2'
     rm files/*.stm
-    for name in b c d; do head -c 32767 /dev/zero > "files/$name"; done
+    for name in b c d; do head -c 262143 /dev/zero > "files/$name"; done
     started --lanes 4 files/a files/b files/c files/d
     is lanes-of-small-files test "$status $(grep -c 'clone3\?(' calls)" = '0 0'
     head -c 262144 /dev/zero > files/e
     started --workers 4 files/e
     is workers-of-a-file test "$status $(grep -c 'clone3\?(' calls)" = '0 3'
-    # A file that is checked has at most a worker for each 512 KiB of its container, the caller's thread among them.
-    for bytes in 900000 1100000 2097000; do head -c $bytes /dev/zero > files/g$bytes; done
+    # A file that is checked has at most a worker for each MiB of its container, the caller's thread among them.
+    for bytes in 2096000 2096800 4193600; do head -c $bytes /dev/zero > files/g$bytes; done
     run seal --key "$key" --ledger files/l --device 1 files/g*
-    for words in 'verify 900000 0' 'verify 1100000 1' 'verify 2097000 3' 'unpipe 900000 0' 'unpipe 1100000 2' 'unpipe 2097000 6'; do
+    for words in 'verify 2096000 0' 'verify 2096800 1' 'verify 4193600 6' 'unpipe 2096000 0' 'unpipe 2096800 2' 'unpipe 4193600 12'; do
         read -r command bytes threads <<< "$words"
         strace -f -e trace=clone,clone3 -o calls "$sealer" "$command" --key "$key" --workers 4 "files/g$bytes.stm" > out 2> err; status=$?
         is "workers-of-a-check $words" test "$status $(grep -c 'clone3\?(' calls)" = "0 $threads"
@@ -765,6 +765,19 @@ elif [ -n "${CI:-}" ]; then
     bad=1
     echo 'strace is missing'
 fi
+# A folder with a path so long that its parts can have a second name, that they can't, or that no part has room.
+fresh
+deep=files
+while [ ${#deep} -lt 3800 ]; do deep=$deep/$(printf 'd%.0s' $(seq 200)); done
+for length in 4055 4056 4057; do
+    folder=$deep/$(printf 'e%.0s' $(seq $((length - ${#deep} - 1))))
+    mkdir -p "$folder"
+    echo x > "$folder/x"
+    run seal --key "$key" --ledger files/l --device 1 "$folder/x"
+    unnumbered
+    wants "path-of-$length" 0 "sealed $folder/x bytes 2" ''
+    is "path-of-$length-has-its-output" test "$(ls -A "$folder" | tr '\n' ' ')" = 'x x.stm '
+done
 # Files in turn, by each engine: a longer one before shorter ones, and before these one that fails once some MB of it were read.
 fresh
 head -c 3000000 /dev/zero | tr '\0' 'L' > files/long

@@ -56,8 +56,8 @@ def text(lines):
 
 
 # The long one has seven chunks. The last three are long enough for the second lane to begin before the first has sealed all.
-# `great` is worth four workers to `open` and `verify`: one for each 512 KiB.
-FILES = {"small": text(400), "long": text(70_000), "great": text(320_000), "a": text(8_000), "b": text(9_000)[::-1], "c": text(10_000), "next": b"next\n"}
+# `great` is worth four workers to `open` and `verify`: one for each MiB.
+FILES = {"small": text(400), "long": text(70_000), "great": text(620_000), "a": text(8_000), "b": text(9_000)[::-1], "c": text(10_000), "next": b"next\n"}
 FILES.update({"x": text(90_000), "y": text(80_000)[::-1], "z": text(85_000)})
 # It needs a spool.
 HUGE = bytes(range(256)) * (17 << 12)

@@ -17,10 +17,10 @@ trap 'running=$(jobs -rp); [ -z "$running" ] || kill $running; rm -rf "$room"' E
 mkdir "$room/given" "$room/results"
 cp examples/numbers.stm "$room/given"
 cd "$room/given" || exit 1
-# Of 17 chunks each worker gets some, a file of 1 MiB is worth two, and each of the others a lane.
-for name in a b c; do seq 1 15000 > $name; done
+# Of 33 chunks each worker gets some, a file of 2 MiB is worth two, and each of the others a lane.
+for name in a b c; do seq 1 50000 > $name; done
 seq 1 400 > small
-head -c 1048577 /dev/zero > long
+head -c 2097153 /dev/zero > long
 "$sealer" seal --key "$key" --ledger "$room/ledger" --device 1 long > "$room/lines" && mv long plain || exit 1
 cp long.stm damaged.stm && printf x | dd of=damaged.stm bs=1 seek=70000 conv=notrunc 2>/dev/null
 

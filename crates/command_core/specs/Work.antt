@@ -1,6 +1,6 @@
 -- What `open_all` and `verify_all` do with a list of files.
 use Rattle.std.specs.Prelude.{◌≡◌, ◌≢◌, ◌⊎◌, ℕ, ◌-◌, ◌<◌, ◌≤◌, Bool, true, false, List, [], ◌∷◌, ◌++◌, length}
-use Rattle.std.specs.Prelude.{take}
+use Rattle.std.specs.Prelude.{take, ◌/◌, ◌^◌, min, max}
 use Rattle.std.specs.Prelude.{map, ⊤, All, Option, None, Some, option_map, flat_map, codes, Result, Ok, Err}
 use Rattle.container_core.specs.declared.fault.OpenFault.TheVariants.{Read, Write}
 use Rattle.container_core.specs.declared.fault.OpenFault.TheVariants as bytes
@@ -47,6 +47,11 @@ IsOpenable (Some to) name = ⊤
 -- 1 to 16 workers, and no more plaintext bytes than a file to be opened can have
 abbrev pub AreInRange : OpenOptions → Type 0
 AreInRange options = (options.max_bytes ≤ MAX_OPENED_BYTES) × (0 < options.workers) × (options.workers ≤ 16)
+
+-- how many of these workers a file is worth: one for each MiB, and at least one; all of them if its length isn't known
+abbrev pub workers_worth : Option ℕ → ℕ → ℕ
+workers_worth None workers = workers
+workers_worth (Some bytes) workers = min (max (bytes / 2 ^ 20) 1) workers
 
 -- the label that is asked for, if any
 abbrev pub asked_label : OpenOptions → Option (List ℕ)

@@ -5,6 +5,7 @@ ghost use Rattle.opening_core.specs.Engine.{HasHeader, OpensTo};
 ghost use Rattle.command_core.specs.Again.{IsGood};
 ghost use Rattle.command_core.specs.Labels.{IsLabelled};
 ghost use Rattle.command_core.specs.Work.{IsFaultOf, IsOfOpening, IsOfVerifying, IsOpenable, file_read_failed};
+ghost use Rattle.command_core.specs.Work.{workers_worth};
 
 use crate::label::is_labelled;
 use crate::line::{FileFault, FileOutcome};
@@ -15,13 +16,14 @@ use opening_core::{Plaintext, run_check, run_read};
 use std::alloc::Global;
 use std::thread::Threads;
 
-// For how many bytes of a file a worker more is started: it checks about as many in the time that its thread's start takes.
-const SHARE: u64 = 1 << 19;
+// The bytes of a file for each of its workers. One reads about as many in the time that three threads take to start.
+const SHARE: u64 = 1 << 20;
 
-/// Returns how many of `workers` workers a file is worth: one for each 512 KiB, and at least one. All of them if the
-/// file's length isn't known.
+/// Returns how many of `workers` workers a file is worth: one for each MiB, and at least one. All of them if the file's
+/// length isn't known.
 pub(crate) fn workers_for(bytes: Option<u64>, workers: u32) -> u32
     requires { 0 < workers }
+    ensures value { result ≡ workers_worth bytes workers }
     ensures some { 0 < result }
     ensures most { result ≤ workers }
 {

@@ -120,7 +120,7 @@ fn end_group<F: SealingFolder, L: Report>(
 }
 
 // The least bytes of a job that is worth a lane. To seal fewer takes less time than to start a thread.
-const LANE_BYTES: usize = 1 << 15;
+const LANE_BYTES: usize = 1 << 18;
 
 // With how many lanes a group of jobs is sealed: as many as it has jobs that are worth one, but at least one if there
 // is any job.
