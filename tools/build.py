@@ -313,11 +313,13 @@ def level_here():
 def build(runs, program, processes, cpu, progress):
     """Proves and builds the program for a level, once all below it is proved, and puts it into its folder. Returns the log of a failure."""
     is_new, words = not (program.kept / "incremental").is_dir(), ["run", "--jobs", str(processes)]
+    # rt runs what it built; other programs know no help
+    asked = ["--", "--help"] if program.name == PROGRAM else []
     if not program.is_wide():
-        status, log, program.took = watched(runs, progress, program, program.folder, *words, "--", "--help")
+        status, log, program.took = watched(runs, progress, program, program.folder, *words, *asked)
     else:
         with room_of(program) as folder:
-            status, log, program.took = watched(runs, progress, program, folder, *words, "--cpu", cpu, "--", "--help")
+            status, log, program.took = watched(runs, progress, program, folder, *words, "--cpu", cpu, *asked)
             if status in (0, OTHER_CPU):
                 status = 0
                 if (folder / "out" / "incremental").is_dir():
