@@ -1,5 +1,6 @@
 pub mod Again
 pub mod Facts
+pub mod GrantedRange
 pub mod KeyFile
 pub mod Labels
 pub mod Lines

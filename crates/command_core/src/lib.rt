@@ -12,6 +12,8 @@ pub(crate) mod label;
 pub mod line;
 pub(crate) mod reading;
 pub mod report;
+pub mod sealing_folder;
+pub mod sealing_stream;
 pub mod unpiping;
 
 pub use crate::commands::{
@@ -22,6 +24,8 @@ pub use crate::folder::{Folder, FolderFault, OpeningFolder};
 pub use crate::key_file::{KeyFault, read_key};
 pub use crate::line::{FileFault, FileOutcome, Line};
 pub use crate::report::Report;
+pub use crate::sealing_folder::SealingFolder;
+pub use crate::sealing_stream::SealingStream;
 pub use crate::unpiping::{OpeningStream, UnpipeOptions, unpipe_all};
 pub use claim_core::MAX_WORKERS;
 pub use opening_core::Plaintext;

@@ -11,7 +11,7 @@ use Rattle.command_core.specs.Session.{with_begun}
 use Rattle.container_core.specs.Container.{header_of, label_bytes}
 use Rattle.container_core.specs.Shape.{IsShape, IsShapeOf, ShapeView}
 use Rattle.container_core.proofs.HeaderLemmas.{shape_in-of}
-use Rattle.front_core.specs.Range.{IsHeld}
+use Rattle.command_core.specs.GrantedRange.{IsHeld}
 use Rattle.journal_core.specs.History.{times_granted}
 use Rattle.journal_core.specs.Range.{Numbers}
 use Rattle.journal_core.proofs.Owners.{in_range}

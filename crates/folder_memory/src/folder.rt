@@ -6,7 +6,7 @@ ghost use Rattle.command_core.specs.Trace.{Closes, Creates, Discards, Does, Done
 ghost use Rattle.command_core.specs.Trace.{Finishes, IsCounted, Nothing, Opens, Refuses, Rewinds, has_failed};
 ghost use Rattle.command_core.specs.Session.{IsFree, Session, started, with_begun};
 ghost use Rattle.container_core.specs.Shape.{IsShape};
-ghost use Rattle.front_core.specs.Range.{IsHeld};
+ghost use Rattle.command_core.specs.GrantedRange.{IsHeld};
 ghost use Rattle.sha2.specs.Sha256.{sha256};
 ghost use Rattle.folder_memory.specs.Memory.{IsEvent, LeavesOutputs, bytes_of, event_of, file_view, reader_view};
 ghost use Rattle.folder_memory.specs.Memory.{is_sound, session_told};
@@ -19,9 +19,8 @@ use crate::streams::{MemoryReader, MemoryWriter};
 use crate::told::{
     Told, closed, created, discarded, done, finished, reading, refused, rewound, tell, unread,
 };
-use command_core::{Folder, FolderFault, OpeningFolder, Plaintext};
+use command_core::{Folder, FolderFault, OpeningFolder, Plaintext, SealingFolder};
 use container_core::{Header, Key, Shape};
-use front_core::SealingFolder;
 use ledger_core::{Failed, Ledger, Seat};
 use reserve_core::{Fold, LedgerFile};
 use std::alloc::Global;

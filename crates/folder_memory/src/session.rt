@@ -6,7 +6,7 @@ ghost use Rattle.std.specs.Prelude.{◌≡◌, ◌↔◌, IfSome, IsTrue};
 ghost use Rattle.sha2.specs.Sha256.{sha256};
 ghost use Rattle.command_core.specs.Session.{IsFree, IsSound, started, with_begun};
 ghost use Rattle.container_core.specs.Shape.{IsShape};
-ghost use Rattle.front_core.specs.Range.{IsHeld};
+ghost use Rattle.command_core.specs.GrantedRange.{IsHeld};
 ghost use Rattle.folder_memory.specs.Noted.{session_of};
 
 use atomic_table::{Play, Seat, Table, TableRule};

@@ -25,7 +25,7 @@ use Rattle.ledger_core.specs.Closing.{AreAllSeats, HaveMet}
 use Rattle.crew_core.specs.Batch.{AreIssued, AreOutcomes, IsOutcome, of_seat}
 use Rattle.crew_core.specs.declared.outcome.Outcome.{Outcome}
 use Rattle.crew_core.specs.declared.outcome.Outcome.TheVariants as job
-use Rattle.front_core.specs.Range as front
+use Rattle.command_core.specs.GrantedRange as front
 use Rattle.output_core.specs.Bounds.{Admits, Allows, Bound, Container}
 use Rattle.command_core.specs.Session.{Begun, IsBoundTo, IsFree, Session, begun_as, started, times_begun, with_begun}
 use Rattle.command_core.specs.Lines.{FileLine}

@@ -8,7 +8,7 @@ use Rattle.sha2.specs.Sha256.{sha256}
 use Rattle.command_core.specs.Session.{Begun, IsOfRange, IsSound, Session, begun_as, times_begun}
 use Rattle.container_core.specs.Container.{container}
 use Rattle.container_core.specs.Shape.{IsShape, ShapeView}
-use Rattle.front_core.specs.Range.{IsHeld}
+use Rattle.command_core.specs.GrantedRange.{IsHeld}
 use Rattle.io_core.specs.Streams.{IsFront}
 use Rattle.journal_core.specs.declared.terms.Terms.{Terms}
 use Rattle.journal_core.specs.History.{grants, times_granted}

@@ -18,7 +18,7 @@ use Rattle.reserve_core.specs.Reservations.{Lists, Holds, with_range}
 use Rattle.reserve_core.specs.Folded.{AreFolded, AreLeft, LeftBy}
 use Rattle.reserve_core.specs.Lasting.{StillLast}
 -- a range that was reserved and folded, and the operations of some seats
-pub use Rattle.front_core.specs.Range.{FoldsARange, IsReserved, operations_of}
+pub use Rattle.command_core.specs.GrantedRange.{FoldsARange, IsReserved, operations_of}
 use Rattle.sealer_core.specs.declared.sealing.SealOptions.{SealOptions}
 use Rattle.sqlite_disk.specs.declared.Disk as disk
 use Rattle.sqlite_disk.specs.declared.Files.{Files}

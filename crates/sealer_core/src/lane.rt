@@ -17,10 +17,9 @@ ghost use Rattle.sealer_core.specs.Sealing.{Accounts, Happened, IsClosed, IsOfSe
 ghost use Rattle.sealer_core.specs.Sealing.{AreLawful, operations_of, unissued_as};
 
 use crate::sealing::SealOptions;
-use command_core::{FileFault, FileOutcome, Folder, FolderFault};
+use command_core::{FileFault, FileOutcome, Folder, FolderFault, SealingFolder};
 use container_core::{Key, SealFault};
 use crew_core::Free;
-use front_core::SealingFolder;
 use ledger_core::{Grant, IssueFault, Ledger, Seat, Spent};
 use sealing_core::run_seal_by;
 use std::alloc::Global;

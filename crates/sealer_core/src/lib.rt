@@ -2,8 +2,7 @@
 //!
 //! `seal_all` and `pipe_all` are here, with the theorems over their runs (`theorem`). The engines are in `sealing_core`
 //! and `opening_core`. `command_core` has `open_all`, `verify_all`, `unpipe_all`, and the folders and lines of all
-//! commands. `life_core` has the laws on the life of a ledger file. `front_core` says what must hold before a container
-//! begins. `reserve_core` has the keeper of the ledger file, and its witness.
+//! commands. `life_core` has the laws on the life of a ledger file. `reserve_core` has the keeper of the ledger file, and its witness.
 #![tactic(auto)]
 
 mod ending;
@@ -22,10 +21,9 @@ pub use crate::theorem::{a_call_is_a_run, no_nonce_is_used_twice, what_was_opene
 pub use command_core::{
     Facts, FileFault, FileOutcome, Folder, FolderFault, KeyFault, Line, MAX_BYTES,
     MAX_OPENED_BYTES, OpenOptions, OpeningFolder, OpeningStream, Outs, Plaintext, Report,
-    UnpipeOptions, open_all, read_key, unpipe_all, verify_all,
+    SealingFolder, SealingStream, UnpipeOptions, open_all, read_key, unpipe_all, verify_all,
 };
 pub use crew_core::{MAX_DEPTH, MAX_LANES, MAX_WINDOW, MAX_WORKERS};
-pub use front_core::{SealingFolder, SealingStream};
 pub use life_core as laws;
 pub use opening_core::{
     open_one, run_open, run_open_by, run_plain, run_plain_by, run_verify, run_verify_by, verify_one,

@@ -12,7 +12,7 @@ ghost use Rattle.command_core.specs.Session.{IsSound, Session, begun_as};
 ghost use Rattle.command_core.specs.Trace.{Event, Finished};
 ghost use Rattle.command_core.specs.Unpiping.{Unpipes};
 ghost use Rattle.command_core.specs.Work.{Opening, output_for};
-ghost use Rattle.front_core.specs.Range.{IsHeld};
+ghost use Rattle.command_core.specs.GrantedRange.{IsHeld};
 ghost use Rattle.io_core.specs.Streams.{IsFront};
 ghost use Rattle.journal_core.specs.declared.entry.Entry.{Entry};
 ghost use Rattle.journal_core.specs.declared.terms.Terms.{Terms};

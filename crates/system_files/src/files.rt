@@ -11,11 +11,10 @@ use crate::own::{
 };
 use crate::progress::{Named, Progress, explain_file};
 use crate::spool::FileSpool;
-use command_core::{Folder, FolderFault, OpeningFolder, Plaintext};
+use command_core::{Folder, FolderFault, OpeningFolder, Plaintext, SealingFolder};
 use container_core::{Header, Key, Shape};
 use either::Either;
 use folder_core::{FileReader, Spooled};
-use front_core::SealingFolder;
 use io_core::Failed;
 use ledger_core::{Ledger, Seat, ToWrite};
 use reserve_core::{Fold, LedgerFile};

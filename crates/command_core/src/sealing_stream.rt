@@ -1,7 +1,7 @@
-//! Streams into which one container is written.
+//! Streams into which one container is written, under the same conditions.
 ghost use Rattle.std.specs.Prelude.{◌≡◌, IfSome};
 ghost use Rattle.command_core.specs.Session.{IsBoundTo, IsShut};
-ghost use Rattle.front_core.specs.Range.{IsHeld, StandsIn};
+ghost use Rattle.command_core.specs.GrantedRange.{IsHeld, StandsIn};
 ghost use Rattle.journal_core.specs.Range.{prefix_of};
 ghost use Rattle.output_core.specs.Bounds.{Container};
 

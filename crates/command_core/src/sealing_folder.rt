@@ -1,12 +1,14 @@
-//! Folders into whose outputs containers are written.
+//! Folders into whose outputs containers are written. What must hold before one begins: its number was granted in this
+//! run, is used for no other output, and is of a range that the ledger file has for good. A folder that knows what was
+//! declared requires it. One over real files does nothing.
 ghost use Rattle.std.specs.Prelude.{◌≡◌, IfSome, Some, []};
 ghost use Rattle.command_core.specs.Session.{IsBoundTo, IsFree, IsNew, Session, started, with_begun};
-ghost use Rattle.front_core.specs.Range.{IsHeld, StandsIn};
+ghost use Rattle.command_core.specs.GrantedRange.{IsHeld, StandsIn};
 ghost use Rattle.journal_core.specs.Range.{prefix_of};
 ghost use Rattle.output_core.specs.Bounds.{Container};
 ghost use Rattle.sha2.specs.Sha256.{sha256};
 
-use command_core::Folder;
+use crate::folder::Folder;
 use container_core::{Key, Shape};
 use ledger_core::{Ledger, Seat};
 use reserve_core::{Fold, LedgerFile};
