@@ -7,9 +7,11 @@ pub mod Groups
 pub mod Happened
 pub mod Journals
 pub mod Life
+pub mod Lives
 pub mod Matches
 pub mod Numbering
 pub mod Openings
+pub mod OutputLaws
 pub mod Outputs
 pub mod Sealings
 pub mod Sessions

@@ -14,8 +14,8 @@ use Rattle.container_core.proofs.LawLemmas.{nonce_of-injective}
 use Rattle.journal_core.specs.declared.entry.Entry.{Entry}
 use Rattle.journal_core.specs.declared.terms.Terms.{Terms}
 use Rattle.journal_core.specs.Range.{IsLawfulRange, prefix_of}
-use Rattle.life_core.specs.Outputs.{AreRuns, HasWritten, IsInside, IsOutput, Output, Place, StandsAt, Written}
-use Rattle.life_core.proofs.Lives.{nonce_at, header_prefix}
+use Rattle.sealer_core.specs.Outputs.{AreRuns, HasWritten, IsInside, IsOutput, Output, Place, StandsAt, Written}
+use Rattle.sealer_core.proofs.Lives.{nonce_at, header_prefix}
 use Rattle.reserve_core.proofs.NextRun.{passed}
 use Rattle.sealer_core.specs.Theorem.{AreInTurn, AreRunsOf, BeginsContainer, Follows, HasChunk, HeldAt, IsRun, Run, Wrote}
 

@@ -19,8 +19,8 @@ use Rattle.command_core.specs.declared.line.FileOutcome.{FileOutcome}
 use Rattle.command_core.specs.declared.line.FileOutcome.TheVariants.{Sealed, Opened, Good, Shown, Failed}
 use Rattle.command_core.specs.Lines.{FileLine}
 use Rattle.command_core.specs.Trace.{Event, Reading, Unread, Rewound, Closed, Created, Refused, Finished, Discarded, Done}
-use Rattle.life_core.specs.Outputs.{AreGranted, Output, IsOutput, HasWritten, times_used}
-use Rattle.life_core.proofs.Outputs.{are_apart}
+use Rattle.sealer_core.specs.Outputs.{AreGranted, Output, IsOutput, HasWritten, times_used}
+use Rattle.sealer_core.proofs.OutputLaws.{are_apart}
 use Rattle.sealer_core.specs.Piping.{HasSealedStream, WorksStream, stream_name}
 use Rattle.sealer_core.specs.Sealing.{Accounts, Happened, HasSealed, HeldUnder, IsDiscarded, Part, Sealing, group_events, group_voids, held_in, line_of, tells_of, times_in, times_told, written_in}
 use Rattle.sealer_core.proofs.Happened.{IsPart}

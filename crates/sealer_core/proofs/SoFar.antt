@@ -15,8 +15,8 @@ use Rattle.journal_core.specs.History.{grants, times_granted}
 use Rattle.journal_core.specs.Range.{IsLawfulRange, Numbers, prefix_of}
 use Rattle.ledger_core.specs.Shared.{LedgerView, SeatView}
 use Rattle.output_core.specs.Bounds.{Bound, Container, IsWithin}
-use Rattle.life_core.specs.Outputs.{HasWritten, IsInside, IsOutput, Output, times_used}
-use Rattle.life_core.proofs.Outputs.{granted_inside}
+use Rattle.sealer_core.specs.Outputs.{HasWritten, IsInside, IsOutput, Output, times_used}
+use Rattle.sealer_core.proofs.OutputLaws.{granted_inside}
 use Rattle.sealer_core.specs.Theorem.{EachBegins, EachHolds, WroteSoFar}
 use Rattle.journal_core.proofs.Owners.{count_calls_le}
 

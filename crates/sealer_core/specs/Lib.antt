@@ -1,5 +1,7 @@
 pub mod Complaints
 pub mod Group
+pub mod Life
+pub mod Outputs
 pub mod Piping
 pub mod Sealing
 pub mod Theorem

@@ -25,8 +25,8 @@ use Rattle.container_core.specs.Shape.{IsShape, ShapeView, size_of}
 use Rattle.journal_core.specs.declared.entry.Entry.{Entry}
 use Rattle.journal_core.specs.declared.terms.Terms.{Terms}
 use Rattle.journal_core.specs.Range.{IsLawfulRange, Numbers, prefix_of}
-use Rattle.life_core.specs.Life.{stream_nonces}
-use Rattle.life_core.specs.Outputs.{Place}
+use Rattle.sealer_core.specs.Life.{stream_nonces}
+use Rattle.sealer_core.specs.Outputs.{Place}
 use Rattle.sqlite_disk.specs.declared.Disk.{Ghosts}
 use Rattle.sqlite_disk.specs.declared.Files.{Files}
 use Rattle.sqlite_wal.specs.Files.{outcomes}

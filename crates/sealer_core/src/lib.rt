@@ -2,12 +2,13 @@
 //!
 //! `seal_all` and `pipe_all` are here, with the theorems over their runs (`theorem`). The engines are in `sealing_core`
 //! and `opening_core`. `command_core` has `open_all`, `verify_all`, `unpipe_all`, and the folders and lines of all
-//! commands. `life_core` has the laws on the life of a ledger file. `reserve_core` has the keeper of the ledger file, and its witness.
+//! commands. `laws` are on the life of a ledger file. `reserve_core` has the keeper of the ledger file, and its witness.
 #![tactic(auto)]
 
 mod ending;
 mod group;
 mod lane;
+pub mod laws;
 pub mod piping;
 mod prepare;
 pub mod runs;
@@ -24,7 +25,6 @@ pub use command_core::{
     SealingFolder, SealingStream, UnpipeOptions, open_all, read_key, unpipe_all, verify_all,
 };
 pub use crew_core::{MAX_DEPTH, MAX_LANES, MAX_WINDOW, MAX_WORKERS};
-pub use life_core as laws;
 pub use opening_core::{
     open_one, run_open, run_open_by, run_plain, run_plain_by, run_verify, run_verify_by, verify_one,
 };

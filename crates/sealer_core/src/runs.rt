@@ -5,7 +5,7 @@ ghost use Rattle.container_core.specs.Shape.{IsShape, ShapeView};
 ghost use Rattle.journal_core.specs.declared.entry.Entry.{Entry};
 ghost use Rattle.journal_core.specs.declared.terms.Terms.{Terms};
 ghost use Rattle.journal_core.specs.Range.{IsLawfulRange, Numbers};
-ghost use Rattle.life_core.specs.Outputs.{AreGranted, HasWritten, Output};
+ghost use Rattle.sealer_core.specs.Outputs.{AreGranted, HasWritten, Output};
 ghost use Rattle.sqlite.specs.Files.{over_files};
 ghost use Rattle.sqlite_wal.specs.Files.{outcomes};
 ghost use Rattle.sqlite_wal.specs.Reads.{AreClean};

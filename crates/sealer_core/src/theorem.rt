@@ -19,7 +19,7 @@ ghost use Rattle.journal_core.specs.declared.terms.Terms.{Terms};
 ghost use Rattle.journal_core.specs.Journal.{terms_of};
 ghost use Rattle.journal_core.specs.Range.{IsLawfulRange, Numbers, prefix_of};
 ghost use Rattle.ledger_core.specs.Shared.{LedgerView, SeatView};
-ghost use Rattle.life_core.specs.Outputs.{HasWritten, Output as Written, Place};
+ghost use Rattle.sealer_core.specs.Outputs.{HasWritten, Output as Written, Place};
 ghost use Rattle.output_core.specs.Bounds.{Container};
 ghost use Rattle.sqlite.specs.Files.{over_files};
 ghost use Rattle.sqlite_wal.specs.Reads.{AreClean};
@@ -34,9 +34,9 @@ ghost use Rattle.sealer_core.specs.Theorem.{IsLeftOf, IsRun, OpenedFiles, killed
 ghost use Rattle.sealer_core.specs.Theorem.{Wrote, WroteFiles};
 ghost use Rattle.sealer_core.specs.Theorem.{WroteStream, finished_in, read_in};
 
+use crate::laws::no_two_outputs_have_one_prefix;
 use crate::runs::{a_run_has_written, a_stream_has_written};
 use container_core::laws::{containers_differ, opens_exactly_its_container};
-use life_core::no_two_outputs_have_one_prefix;
 use output_core::Output;
 use reserve_core::LedgerFile;
 use sqlite::Files;

@@ -21,7 +21,7 @@ use Rattle.container_core.proofs.HeaderLemmas.{prefix_in-header_of, shape-bounds
 use Rattle.container_core.proofs.LawLemmas.{nonce_of-injective}
 use Rattle.ranges_core.specs.Reservations.{TakenRange, Adjacent}
 use Rattle.ranges_core.proofs.Behind.{behind}
-use Rattle.life_core.specs.Life.{Run, Refused, CutOff, Acknowledged, reserved, history_of, IsRun, IsLife, Lives, Grant, HasGrant, Sealing, prefix_by, stream_nonces, container_nonces, sealed_under}
+use Rattle.sealer_core.specs.Life.{LedgerRun, Refused, CutOff, Acknowledged, reserved, history_of, IsLedgerRun, IsLife, Lives, LedgerGrant, HasGrant, ShapedPlain, prefix_by, stream_nonces, container_nonces, sealed_under}
 
 -- ranges of a list
 
@@ -39,7 +39,7 @@ later from (r ∷ more) (suc i) (suc j) a b adjacent less at also =
     let (begins, some, rest) = adjacent in
     later (from + r.size) more i j a b rest (omega arith) at also
 
-pub apart : (device : ℕ) (runs : List Run) (i j number : ℕ) (one other : TakenRange) → IsLife device runs → i ≢ j
+pub apart : (device : ℕ) (runs : List LedgerRun) (i j number : ℕ) (one other : TakenRange) → IsLife device runs → i ≢ j
     → slice_get (reserved runs) i ≡ Some one → slice_get (reserved runs) j ≡ Some other
     → one.lo ≤ number → number < one.lo + one.size → other.lo ≤ number → number < other.lo + other.size → ⊥
 apart device runs i j number one other life differ at also from below begin under =
@@ -50,7 +50,7 @@ apart device runs i j number one other life differ at also from below begin unde
 -- the ranges of runs that were acknowledged
 
 -- the place of a run's range among all ranges
-abbrev place_of : List Run → ℕ → ℕ
+abbrev place_of : List LedgerRun → ℕ → ℕ
 place_of [] i = 0
 place_of (run ∷ rest) zero = 0
 place_of (Refused ∷ rest) (suc i) = place_of rest i
@@ -58,7 +58,7 @@ place_of (CutOff None ∷ rest) (suc i) = place_of rest i
 place_of (CutOff (Some q) ∷ rest) (suc i) = suc (place_of rest i)
 place_of (Acknowledged q s h ∷ rest) (suc i) = suc (place_of rest i)
 
-at_place : (runs : List Run) (i : ℕ) (r : TakenRange) (seats : ℕ) (history : List Entry)
+at_place : (runs : List LedgerRun) (i : ℕ) (r : TakenRange) (seats : ℕ) (history : List Entry)
     → slice_get runs i ≡ Some (Acknowledged r seats history) → slice_get (reserved runs) (place_of runs i) ≡ Some r
 at_place [] i r seats history at = absurd (cc)
 at_place (Refused ∷ rest) zero r seats history at = absurd (cc)
@@ -71,7 +71,7 @@ at_place (CutOff (Some q) ∷ rest) (suc i) r seats history at = at_place rest i
 at_place (Acknowledged q s h ∷ rest) (suc i) r seats history at = at_place rest i r seats history at
 
 -- places rise with the runs
-places_rise : (runs : List Run) (i j : ℕ) (r : TakenRange) (seats : ℕ) (history : List Entry) → i < j
+places_rise : (runs : List LedgerRun) (i j : ℕ) (r : TakenRange) (seats : ℕ) (history : List Entry) → i < j
     → slice_get runs i ≡ Some (Acknowledged r seats history) → j < length runs → place_of runs i < place_of runs j
 places_rise [] i j r seats history less at inside = absurd (cc)
 places_rise (run ∷ rest) i zero r seats history less at inside = absurd (omega arith)
@@ -88,19 +88,19 @@ places_rise (Acknowledged q s h ∷ rest) (suc i) (suc j) r seats history less a
     let e = places_rise rest i j r seats history (omega arith) at (omega arith) in omega arith
 
 -- a run with an entry was acknowledged
-acknowledged : (run : Run) (k : ℕ) (e : Entry) → slice_get (history_of run) k ≡ Some e
+acknowledged : (run : LedgerRun) (k : ℕ) (e : Entry) → slice_get (history_of run) k ≡ Some e
     → (r : TakenRange) × (seats : ℕ) × (run ≡ Acknowledged r seats (history_of run))
 acknowledged Refused k e at = absurd (cc)
 acknowledged (CutOff r) k e at = absurd (cc)
 acknowledged (Acknowledged r seats history) k e at = (r, seats, refl)
 
-runs_at : (device : ℕ) (runs : List Run) (i : ℕ) (run : Run) → AllByRecursion (IsRun device) runs → slice_get runs i ≡ Some run → IsRun device run
+runs_at : (device : ℕ) (runs : List LedgerRun) (i : ℕ) (run : LedgerRun) → AllByRecursion (IsLedgerRun device) runs → slice_get runs i ≡ Some run → IsLedgerRun device run
 runs_at device [] i run all at = absurd (cc)
-runs_at device (x ∷ rest) zero run all at = let same : x ≡ run = cc in subst (IsRun device) same all.0
+runs_at device (x ∷ rest) zero run all at = let same : x ≡ run = cc in subst (IsLedgerRun device) same all.0
 runs_at device (x ∷ rest) (suc i) run all at = runs_at device rest i run all.1 at
 
 -- what a grant of a life is
-record Granting (device : ℕ) (runs : List Run) (run at number : ℕ) : Type 0 where
+record Granting (device : ℕ) (runs : List LedgerRun) (run at number : ℕ) : Type 0 where
   range : TakenRange
   seats : ℕ
   history : List Entry
@@ -114,12 +114,12 @@ record Granting (device : ℕ) (runs : List Run) (run at number : ℕ) : Type 0 
   three_bytes : device ≤ 16777215
   four_bytes : number < 4294967296
 
-granting : (lives : Lives) (grant : Grant) → HasGrant lives grant
+granting : (lives : Lives) (grant : LedgerGrant) → HasGrant lives grant
     → Granting grant.device (lives grant.device) grant.run grant.entry grant.number
 granting lives grant has =
     let runs = lives grant.device in
     let (range, seats, is) = acknowledged has.run grant.entry (entry has.seat (Granted grant.number)) has.at_entry in
-    let at_run : slice_get runs grant.run ≡ Some (Acknowledged range seats (history_of has.run)) = has.at_run ∙ ap (λ (x : Run). Some x) is in
+    let at_run : slice_get runs grant.run ≡ Some (Acknowledged range seats (history_of has.run)) = has.at_run ∙ ap (λ (x : LedgerRun). Some x) is in
     let legal = runs_at grant.device runs grant.run (Acknowledged range seats (history_of has.run)) has.life.legal at_run in
     let once = numbers_once (record { range = range_of grant.device range.lo range.size; seats = seats }) (history_of has.run) legal in
     let inside = once.inside grant.entry grant.number has.seat has.at_entry in
@@ -144,7 +144,7 @@ granting lives grant has =
     }
 
 -- a number that an earlier run granted is below the range of a later one
-runs_differ : (device : ℕ) (runs : List Run) (i k j l number : ℕ) → Granting device runs i k number → Granting device runs j l number → i < j → ⊥
+runs_differ : (device : ℕ) (runs : List LedgerRun) (i k j l number : ℕ) → Granting device runs i k number → Granting device runs j l number → i < j → ⊥
 runs_differ device runs i k j l number one other less =
     let inside = slice_get_within runs j (Acknowledged other.range other.seats other.history) other.at_run in
     let rise = places_rise runs i j one.range one.seats one.history less one.at_run inside in
@@ -161,14 +161,14 @@ not_apart k l h =
     (λ gt. absurd (h (λ e. omega arith)))
 
 -- a run grants a number once
-entries_differ : (device : ℕ) (runs : List Run) (i k l number : ℕ) → Granting device runs i k number → Granting device runs i l number → k ≡ l
+entries_differ : (device : ℕ) (runs : List LedgerRun) (i k l number : ℕ) → Granting device runs i k number → Granting device runs i l number → k ≡ l
 entries_differ device runs i k l number one other =
     let same : one.history ≡ other.history = cc (one.at_run, other.at_run) in
     let at : slice_get one.history l ≡ Some (entry other.seat (Granted number)) = ap (λ (h : List Entry). slice_get h l) same ∙ other.at_entry in
     let once = numbers_once (record { range = range_of device one.range.lo one.range.size; seats = one.seats }) one.history one.legal in
     not_apart k l (λ differ. once.once k l number number one.seat other.seat differ one.at_entry at refl)
 
-same_place : (device : ℕ) (runs : List Run) (i k j l number : ℕ) → Granting device runs i k number → Granting device runs j l number
+same_place : (device : ℕ) (runs : List LedgerRun) (i k j l number : ℕ) → Granting device runs i k number → Granting device runs j l number
     → (i ≡ j) × (k ≡ l)
 same_place device runs i k j l number one other =
     let runs_agree = not_apart i j (λ differ. dite (dec_le i j)
@@ -176,17 +176,17 @@ same_place device runs i k j l number one other =
     (λ gt. runs_differ device runs j l i k number other one (omega arith))) in
     (runs_agree, entries_differ device runs i k l number one (subst (λ (r : ℕ). Granting device runs r l number) (sym runs_agree) other))
 
-abbrev pub grant_of : ℕ → ℕ → ℕ → ℕ → Grant
+abbrev pub grant_of : ℕ → ℕ → ℕ → ℕ → LedgerGrant
 grant_of device run at number = record { device = device; run = run; entry = at; number = number }
 
-same_grant : (one other : Grant) → one.device ≡ other.device → one.run ≡ other.run → one.entry ≡ other.entry → one.number ≡ other.number → one ≡ other
+same_grant : (one other : LedgerGrant) → one.device ≡ other.device → one.run ≡ other.run → one.entry ≡ other.entry → one.number ≡ other.number → one ≡ other
 same_grant one other d r e n =
     ap (λ x. grant_of x one.run one.entry one.number) d
     ∙ ap (λ x. grant_of other.device x one.entry one.number) r
     ∙ ap (λ x. grant_of other.device other.run x one.number) e
     ∙ ap (λ x. grant_of other.device other.run other.entry x) n
 
-pub one_grant : (lives : Lives) (one other : Grant) → HasGrant lives one → HasGrant lives other → prefix_by one ≡ prefix_by other → one ≡ other
+pub one_grant : (lives : Lives) (one other : LedgerGrant) → HasGrant lives one → HasGrant lives other → prefix_by one ≡ prefix_by other → one ≡ other
 one_grant lives one other has also same =
     let g = granting lives one has in
     let h = granting lives other also in
@@ -226,7 +226,7 @@ chunks_few shape plain lawful few =
     let count = count-few (size_of shape) (length plain) least few in
     omega (arith, h, count)
 
-pub one_nonce : (key : List ℕ) (lives : Lives) (sealed : Grant → Sealing) (one other : Grant) (chunk another : ℕ) (nonce : List ℕ)
+pub one_nonce : (key : List ℕ) (lives : Lives) (sealed : LedgerGrant → ShapedPlain) (one other : LedgerGrant) (chunk another : ℕ) (nonce : List ℕ)
     → HasGrant lives one → HasGrant lives other
     → IsShape (sealed one).shape → IsShape (sealed other).shape
     → length (sealed one).plain ≤ 2 ^ 40 → length (sealed other).plain ≤ 2 ^ 40
@@ -257,7 +257,7 @@ stream_under key header number [] = refl
 stream_under key header number (chunk ∷ rest) =
     ap (λ (s : List ℕ). sealed_chunk key header number (is_nil rest) chunk ++ s) (stream_under key header (number + 1) rest)
 
-pub container_under : (key : List ℕ) (grant : Grant) (sealing : Sealing)
+pub container_under : (key : List ℕ) (grant : LedgerGrant) (sealing : ShapedPlain)
     → container key sealing.shape (prefix_by grant) sealing.plain
     ≡ header_of key sealing.shape (prefix_by grant) ++ sealed_under key (header_of key sealing.shape (prefix_by grant))
     (container_nonces key grant sealing) (chunks (size_of sealing.shape) sealing.plain)

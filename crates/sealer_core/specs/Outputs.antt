@@ -10,7 +10,7 @@ use Rattle.container_core.specs.declared.TheConstants.{TAG}
 use Rattle.container_core.specs.Chunks.{chunks}
 use Rattle.container_core.specs.Container.{container, header_of}
 use Rattle.container_core.specs.Shape.{ShapeView, IsShape, size_of}
-use Rattle.life_core.specs.Life.{stream_nonces}
+use Rattle.sealer_core.specs.Life.{stream_nonces}
 
 -- an output: the number under which it was sealed, its shape, a plaintext, and the bytes that it held when it was
 -- finished or given up, or when its run was killed

@@ -1,7 +1,5 @@
 //! No nonce is used twice, over all runs of one key. This follows from the definitions of STREAM, ranges, legal
 //! histories and the life of a ledger file. Each law is the contract of a function that does nothing.
-#![tactic(auto)]
-
 ghost use Rattle.std.specs.Prelude.{◌≡◌, ◌≢◌, ℕ, ◌+◌, ◌^◌, ◌<◌, ◌≤◌, ◌++◌, List, length, Some, slice_get};
 ghost use Rattle.std.specs.List.{AllByRecursion};
 ghost use Rattle.io_core.specs.Streams.{IsFront};
@@ -12,22 +10,22 @@ ghost use Rattle.container_core.specs.Chunks.{chunks};
 ghost use Rattle.container_core.specs.Container.{container, header_of};
 ghost use Rattle.container_core.specs.Shape.{IsShape, size_of};
 ghost use Rattle.ranges_core.specs.Reservations.{TakenRange};
-ghost use Rattle.life_core.specs.Life.{Grant, HasGrant, IsLife, Lives, Run, Sealing};
-ghost use Rattle.life_core.specs.Life.{container_nonces, prefix_by, reserved, sealed_under};
-ghost use Rattle.life_core.specs.Outputs.{AreGranted, AreRuns, HoldsChunk, IsInside, IsOutput, Output, Place};
-ghost use Rattle.life_core.specs.Outputs.{StandsAt, Written, nonces_of};
-ghost use Rattle.life_core.specs.Outputs.{times_used};
+ghost use Rattle.sealer_core.specs.Life.{LedgerGrant, HasGrant, IsLife, Lives, LedgerRun, ShapedPlain};
+ghost use Rattle.sealer_core.specs.Life.{container_nonces, prefix_by, reserved, sealed_under};
+ghost use Rattle.sealer_core.specs.Outputs.{AreGranted, AreRuns, HoldsChunk, IsInside, IsOutput, Output, Place};
+ghost use Rattle.sealer_core.specs.Outputs.{StandsAt, Written, nonces_of};
+ghost use Rattle.sealer_core.specs.Outputs.{times_used};
 
 /// In the life of a key and device no number is in two of the ranges that its runs reserved.
 pub fn ranges_are_apart()
-    ensures { (device : ℕ) (runs : List Run) (i j number : ℕ) (one other : TakenRange) → IsLife device runs → i ≢ j
+    ensures { (device : ℕ) (runs : List LedgerRun) (i j number : ℕ) (one other : TakenRange) → IsLife device runs → i ≢ j
         → slice_get (reserved runs) i ≡ Some one → slice_get (reserved runs) j ≡ Some other
         → one.lo ≤ number → number < one.lo + one.size → other.lo ≤ number → number < other.lo + other.size → ⊥ }
 {}
 
 /// Over all runs of all devices of one key, two grants with one prefix are the same grant.
 pub fn no_prefix_is_granted_twice()
-    ensures { (lives : Lives) (one other : Grant) → HasGrant lives one → HasGrant lives other
+    ensures { (lives : Lives) (one other : LedgerGrant) → HasGrant lives one → HasGrant lives other
         → prefix_by one ≡ prefix_by other
         → one ≡ other }
 {}
@@ -35,8 +33,8 @@ pub fn no_prefix_is_granted_twice()
 /// No nonce is used twice under one key, over all runs of all its devices. At most one plaintext is sealed under each
 /// grant, in one shape. Then two sealed chunks with one nonce are the same chunk of the same container, in any shapes.
 /// An interrupted sealing wrote a prefix of such a container, so its chunks are among these.
-pub fn no_nonce_is_used_twice()
-    ensures { (key : List ℕ) (lives : Lives) (sealed : Grant → Sealing) (one other : Grant)
+pub fn no_granted_nonce_is_used_twice()
+    ensures { (key : List ℕ) (lives : Lives) (sealed : LedgerGrant → ShapedPlain) (one other : LedgerGrant)
         (chunk another : ℕ) (nonce : List ℕ)
         → HasGrant lives one → HasGrant lives other
         → IsShape (sealed one).shape → IsShape (sealed other).shape
@@ -49,7 +47,7 @@ pub fn no_nonce_is_used_twice()
 /// These nonces are those of STREAM. The container of a plaintext under a grant, in a shape, is its header and then the
 /// plaintext's chunks in order. Each is sealed by the AEAD under the nonce at its place.
 pub fn containers_are_sealed_under_their_nonces()
-    ensures { (key : List ℕ) (grant : Grant) (sealing : Sealing)
+    ensures { (key : List ℕ) (grant : LedgerGrant) (sealing : ShapedPlain)
         → container key sealing.shape (prefix_by grant) sealing.plain
         ≡ header_of key sealing.shape (prefix_by grant)
         ++ sealed_under key (header_of key sealing.shape (prefix_by grant))

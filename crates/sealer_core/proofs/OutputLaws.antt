@@ -20,9 +20,9 @@ use Rattle.container_core.specs.Stream.{nonce_of}
 use Rattle.container_core.specs.Shape.{size_of}
 use Rattle.container_core.proofs.LawLemmas.{nonce_of-injective}
 use Rattle.io_core.specs.Streams.{IsFront}
-use Rattle.life_core.specs.Life.{container_nonces, sealed_under}
-use Rattle.life_core.specs.Outputs.{AreGranted, IsInside, Output, IsOutput, nonces_of, times_used, Written, HasWritten, AreRuns, Place, StandsAt, HoldsChunk}
-use Rattle.life_core.proofs.Lives.{nonce_at, header_prefix, not_apart, grant_of, container_under}
+use Rattle.sealer_core.specs.Life.{container_nonces, sealed_under}
+use Rattle.sealer_core.specs.Outputs.{AreGranted, IsInside, Output, IsOutput, nonces_of, times_used, Written, HasWritten, AreRuns, Place, StandsAt, HoldsChunk}
+use Rattle.sealer_core.proofs.Lives.{nonce_at, header_prefix, not_apart, grant_of, container_under}
 
 -- ---- what is counted in a list
 

@@ -1,5 +1,0 @@
-use Rattle.life_core.proofs.Lives.{one_grant}
-use Rattle.life_core.proofs.no_prefix_is_granted_twice.Goals as goal
-
-pub returns : goal.returns
-returns c = one_grant
