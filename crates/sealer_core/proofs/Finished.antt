@@ -20,7 +20,7 @@ use Rattle.command_core.specs.Trace.{Event, Reading, Unread, Rewound, Closed, Cr
 use Rattle.command_core.specs.Work.{AreBefore, IsBrokenOff, IsGivenUp, IsRefused, Opening, OpeningRead, Work, output_for, reading_failed}
 use Rattle.command_core.specs.Work.{write_failed}
 use Rattle.sealer_core.specs.Sealing.{IsDiscarded, IsUncreated, Part, Sealing, group_events, sealed_name}
-use Rattle.sealer_core.specs.Theorem.{IsAmong, WasOpened, WasSealed}
+use Rattle.sealer_core.specs.Restored.{IsAmong, WasOpened, WasSealed}
 use Rattle.sealer_core.proofs.Happened.{IsPart}
 use Rattle.sealer_core.proofs.Outputs.{afters, befores}
 

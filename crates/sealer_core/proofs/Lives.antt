@@ -21,7 +21,8 @@ use Rattle.container_core.proofs.HeaderLemmas.{prefix_in-header_of, shape-bounds
 use Rattle.container_core.proofs.LawLemmas.{nonce_of-injective}
 use Rattle.ranges_core.specs.Reservations.{TakenRange, Adjacent}
 use Rattle.ranges_core.proofs.Behind.{behind}
-use Rattle.sealer_core.specs.Life.{LedgerRun, Refused, CutOff, Acknowledged, reserved, history_of, IsLedgerRun, IsLife, Lives, LedgerGrant, HasGrant, ShapedPlain, prefix_by, stream_nonces, container_nonces, sealed_under}
+use Rattle.sealer_core.specs.Life.{LedgerRun, Refused, CutOff, Acknowledged, reserved, history_of, IsLedgerRun, IsLife, Lives, LedgerGrant, HasGrant, ShapedPlain, prefix_by, container_nonces}
+use Rattle.sealer_core.specs.Outputs.{sealed_under, stream_nonces}
 
 -- ranges of a list
 

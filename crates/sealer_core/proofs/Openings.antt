@@ -18,7 +18,7 @@ use Rattle.journal_core.specs.declared.terms.Terms.{Terms}
 use Rattle.journal_core.specs.Range.{prefix_of}
 use Rattle.sealer_core.specs.Piping.{WorksStream}
 use Rattle.sealer_core.specs.Sealing.{Sealing, group_events, sealed_name}
-use Rattle.sealer_core.specs.Theorem.{IsAmong, OpenedFiles, WasOpened, WasSealed, WroteFiles, WroteStream, finished_in, read_in}
+use Rattle.sealer_core.specs.Restored.{IsAmong, OpenedFiles, WasOpened, WasSealed, WroteFiles, WroteStream, finished_in, read_in}
 use Rattle.sealer_core.proofs.Finished.{IsOfInput, IsOpened, of_groups, of_works, some_opened, work_events}
 
 long_enough : (key : List ℕ) (shape : ShapeView) (prefix plain : List ℕ) → length prefix ≡ 7 → 17 ≤ length (container key shape prefix plain)
@@ -118,27 +118,27 @@ each_opened key call output plain at =
     (some_opened key most label call.to output plain done.works done.each (subst (IsAmong (Finished output plain)) all at))
 
 -- what the output of a run of `seal_all` is finished with is the container of an input
-pub held_of_run : (key : List ℕ) (terms : Terms) (history : List Entry) (outputs : List (List ℕ)) (run : WroteFiles key terms history outputs) (output bytes : List ℕ)
+pub held_of_run : (key : List ℕ) (terms : Terms) (history : List Entry) (run : WroteFiles key terms history) (output bytes : List ℕ)
     → IsAmong (Finished output bytes) run.events → IsOfInput key run.shape terms.range.device output bytes (λ file input. WasSealed run.events file input bytes)
-held_of_run key terms history outputs run output bytes at =
+held_of_run key terms history run output bytes at =
     let (most, status, old, new, failures, later, sealed) = run.sealed in
     let (events, happened, joined) = sealed.worked.done in
     let all : run.events ≡ flat_map group_events happened.parts = append_cancel_left run.before run.events events joined ∙ happened.joined in
     subst (λ (l : List Event). IsOfInput key run.shape terms.range.device output bytes (λ file input. WasSealed l file input bytes)) (sym all)
     (of_groups key run.shape most terms.range.device output bytes happened.parts happened.each (subst (IsAmong (Finished output bytes)) all at))
 
-module _ (key : List ℕ) (opens : Opens key) (differ : Differ key) (terms : Terms) (history : List Entry) (outputs : List (List ℕ)) (call : OpenedFiles key) where
+module _ (key : List ℕ) (opens : Opens key) (differ : Differ key) (terms : Terms) (history : List Entry) (call : OpenedFiles key) where
   -- what was opened of an output that a run of `seal_all` finished is what the run had read
-  pub of_run : (run : WroteFiles key terms history outputs) (output file bytes plain : List ℕ) → IsAmong (Finished output bytes) run.events → WasOpened call.to call.events file bytes plain
+  pub of_run : (run : WroteFiles key terms history) (output file bytes plain : List ℕ) → IsAmong (Finished output bytes) run.events → WasOpened call.to call.events file bytes plain
       → (source : List ℕ) × (output ≡ sealed_name source) × WasSealed run.events source plain bytes
   of_run run output file bytes plain at was =
-      let (source, input, number, named, held, sealed) = held_of_run key terms history outputs run output bytes at in
+      let (source, input, number, named, held, sealed) = held_of_run key terms history run output bytes at in
       let (most, opened) = opened_to key call file bytes plain was in
       let plain_is = opened_is key opens differ run.shape run.is_shape (prefix_of terms.range.device number) input plain most refl (subst (λ (b : List ℕ). opening key most b ≡ Ok plain) held opened) in
       (source, named, subst (λ (p : List ℕ). WasSealed run.events source p bytes) (sym plain_is) sealed)
 
   -- and of one of `pipe_all`
-  pub of_stream_run : (run : WroteStream key terms history outputs) (number count : ℕ) (file plain : List ℕ) → run.outcome ≡ Sealed number count → WasOpened call.to call.events file run.bytes plain
+  pub of_stream_run : (run : WroteStream key terms history) (number count : ℕ) (file plain : List ℕ) → run.outcome ≡ Sealed number count → WasOpened call.to call.events file run.bytes plain
       → plain ≡ run.input
   of_stream_run run number count file plain is was =
       let (chunks, left, failures, failures', refusals, refusals', status, old, new, faults, faults', stream, says) = run.sealed in
@@ -159,21 +159,21 @@ unpiped_of key most n label name bytes before plain events earlier (worked, (hea
     let last_is = last_of last one bytes earlier (inr (sym (ap read_in all) ∙ same)) in
     (whole, subst (λ (b : List ℕ). opening key most b ≡ Ok whole) last_is opened.0, append_cancel_left before plain whole grew)
 
-module _ (key : List ℕ) (opens : Opens key) (differ : Differ key) (terms : Terms) (history : List Entry) (outputs : List (List ℕ)) where
+module _ (key : List ℕ) (opens : Opens key) (differ : Differ key) (terms : Terms) (history : List Entry) where
   -- of an output that a run of `seal_all` finished
-  pub unpiped_run : (run : WroteFiles key terms history outputs) (output bytes name before plain : List ℕ) (most n : ℕ) (label : Option (List ℕ))
+  pub unpiped_run : (run : WroteFiles key terms history) (output bytes name before plain : List ℕ) (most n : ℕ) (label : Option (List ℕ))
       (events : List Event) (earlier : List (List ℕ)) → IsAmong (Finished output bytes) run.events
       → Unpipes key most label name (Some before) (Some (before ++ plain)) (Opened n) events → read_in events ≡ earlier ++ bytes ∷ []
       → (source : List ℕ) × (output ≡ sealed_name source) × WasSealed run.events source plain bytes
   unpiped_run run output bytes name before plain most n label events earlier at unpiped same =
-      let (source, input, number, named, held, sealed) = held_of_run key terms history outputs run output bytes at in
+      let (source, input, number, named, held, sealed) = held_of_run key terms history run output bytes at in
       let (whole, opened, grew) = unpiped_of key most n label name bytes before plain events earlier unpiped same in
       let whole_is = opened_is key opens differ run.shape run.is_shape (prefix_of terms.range.device number) input whole most refl
       (subst (λ (b : List ℕ). opening key most b ≡ Ok whole) held opened) in
       (source, named, subst (λ (p : List ℕ). WasSealed run.events source p bytes) (sym (grew ∙ whole_is)) sealed)
 
   -- and of a stream that a run of `pipe_all` sealed
-  pub unpiped_stream_run : (run : WroteStream key terms history outputs) (number count most n : ℕ) (label : Option (List ℕ)) (name before plain : List ℕ)
+  pub unpiped_stream_run : (run : WroteStream key terms history) (number count most n : ℕ) (label : Option (List ℕ)) (name before plain : List ℕ)
       (events : List Event) (earlier : List (List ℕ)) → run.outcome ≡ Sealed number count → Unpipes key most label name (Some before) (Some (before ++ plain)) (Opened n) events
       → read_in events ≡ earlier ++ run.bytes ∷ [] → plain ≡ run.input
   unpiped_stream_run run number count most n label name before plain events earlier is unpiped same =

@@ -20,8 +20,8 @@ use Rattle.container_core.specs.Stream.{nonce_of}
 use Rattle.container_core.specs.Shape.{size_of}
 use Rattle.container_core.proofs.LawLemmas.{nonce_of-injective}
 use Rattle.io_core.specs.Streams.{IsFront}
-use Rattle.sealer_core.specs.Life.{container_nonces, sealed_under}
-use Rattle.sealer_core.specs.Outputs.{AreGranted, IsInside, Output, IsOutput, nonces_of, times_used, Written, HasWritten, AreRuns, Place, StandsAt, HoldsChunk}
+use Rattle.sealer_core.specs.Life.{container_nonces}
+use Rattle.sealer_core.specs.Outputs.{AreGranted, sealed_under, IsInside, Output, IsOutput, nonces_of, times_used, Written, HasWritten, AreRuns, Place, StandsAt, HoldsChunk}
 use Rattle.sealer_core.proofs.Lives.{nonce_at, header_prefix, not_apart, grant_of, container_under}
 
 -- ---- what is counted in a list
@@ -178,8 +178,8 @@ record Standing (key : List ℕ) (runs : ℕ → List Written) (place : Place) (
   at_run : slice_get (runs place.device) place.run ≡ Some run
   at_output : slice_get run.outputs place.output ≡ Some output
   once : times_used output.number run.outputs ≤ 1
-  from : run.terms.range.lo ≤ output.number
-  below : output.number < run.terms.range.lo + run.terms.range.size
+  from : run.range.lo ≤ output.number
+  below : output.number < run.range.lo + run.range.size
   three_bytes : place.device ≤ 16777215
   four_bytes : output.number < 4294967296
 
@@ -189,9 +189,9 @@ standing key runs place output are stands =
     let run = stands.run in
     let has = all_at (HasWritten key place.device) (runs place.device) place.run run are.each stands.at_run in
     let once = has.once output.number in
-    let (from, below) = all_at (IsInside run.terms.range) run.outputs place.output output has.inside stands.at_output in
+    let (from, below) = all_at (IsInside run.range) run.outputs place.output output has.inside stands.at_output in
     let end = has.lawful.end in
-    let three : run.terms.range.device ≤ 16777215 = has.lawful.device in
+    let three : run.range.device ≤ 16777215 = has.lawful.device in
     record {
       run = run;
       at_run = stands.at_run;
@@ -205,15 +205,15 @@ standing key runs place output are stands =
 
 -- one run after the other
 behind : (key : List ℕ) (device : ℕ) (runs : List Written) (i j number : ℕ) (one other : Written) → AreRuns key device runs → i < j
-    → slice_get runs i ≡ Some one → slice_get runs j ≡ Some other → number < one.terms.range.lo + one.terms.range.size
-    → other.terms.range.lo ≤ number → ⊥
+    → slice_get runs i ≡ Some one → slice_get runs j ≡ Some other → number < one.range.lo + one.range.size
+    → other.range.lo ≤ number → ⊥
 behind key device runs i j number one other are less at also below from = let h = are.rise i j one other less at also in omega arith
 
 -- a number is of one run
 one_run : (key : List ℕ) (device : ℕ) (runs : List Written) (i j number : ℕ) (one other : Written) → AreRuns key device runs
-    → slice_get runs i ≡ Some one → slice_get runs j ≡ Some other → one.terms.range.lo ≤ number
-    → number < one.terms.range.lo + one.terms.range.size → other.terms.range.lo ≤ number
-    → number < other.terms.range.lo + other.terms.range.size → i ≡ j
+    → slice_get runs i ≡ Some one → slice_get runs j ≡ Some other → one.range.lo ≤ number
+    → number < one.range.lo + one.range.size → other.range.lo ≤ number
+    → number < other.range.lo + other.range.size → i ≡ j
 one_run key device runs i j number one other are at also from below start under =
     not_apart i j (λ differ. dite (dec_le i j)
     (λ le. behind key device runs i j number one other are (omega arith) at also below start)

@@ -190,7 +190,7 @@ module _ (key : List ℕ) (shape : ShapeView) (most device : ℕ) (lawful : IsSh
 -- what was written for lines and void numbers that agree with a history
 has_written : (key : List ℕ) (device : ℕ) (terms : Terms) (history : List Entry) (lines : List FileLine) (voids : List ℕ) (held : List (List ℕ)) → terms.range.device ≡ device → IsLawfulRange terms.range
     → Legal terms history → Accounts lines voids history → (w : Writing key device lines voids held)
-    → HasWritten key device (record { terms = terms; outputs = w.outputs }) × AreGranted terms history w.outputs
+    → HasWritten key device (record { range = terms.range; outputs = w.outputs }) × AreGranted terms history w.outputs
 has_written key device terms history lines voids held of_device range legal accounts w =
     let granted : (n : ℕ) → times_used n w.outputs ≤ times_granted n history = λ n.
     let used = w.counted n in
@@ -207,7 +207,7 @@ module _ (key : List ℕ) (shape : ShapeView) (device : ℕ) (lawful : IsShape s
       (before after : List Event) → terms.range.device ≡ device → IsLawfulRange terms.range
       → HasSealed (Happened key shape most device (Some before) (Some after)) names terms history status old new failures later
       → (events : List Event) × (outputs : List Output) × (after ≡ before ++ events) × (written_in events ≡ held_of outputs)
-      × HasWritten key device (record { terms = terms; outputs = outputs }) × AreGranted terms history outputs
+      × HasWritten key device (record { range = terms.range; outputs = outputs }) × AreGranted terms history outputs
   of_run most names terms history status old new failures later before after of_device range sealed =
       let (events, happened, joined) = sealed.worked.done in
       let lines : flat_map (λ group. group) (map lines_of happened.parts) ≡ sealed.worked.lines =
@@ -243,7 +243,7 @@ module _ (key : List ℕ) (shape : ShapeView) (device : ℕ) (lawful : IsShape s
     pub of_stream : (terms : Terms) (history : List Entry) (status : ℕ) (lines lines' : Option (List ℕ)) (faults faults' : Option ℕ) → terms.range.device ≡ device → IsLawfulRange terms.range
         → HasSealedStream key shape most (Some input) left' failures failures' (Some old) (Some new) refusals refusals' terms history status lines lines' faults faults'
         → (held : List ℕ) × (outputs : List Output) × (new ≡ old ++ held) × (held_in held ≡ held_of outputs)
-        × HasWritten key device (record { terms = terms; outputs = outputs }) × AreGranted terms history outputs
+        × HasWritten key device (record { range = terms.range; outputs = outputs }) × AreGranted terms history outputs
     of_stream terms history status lines lines' faults faults' of_device range sealed =
         let (held, grew, writing) = of_works sealed.outcome sealed.piped.voids
         (subst (λ d. WorksStream key shape most (Some input) left' failures failures' (Some old) (Some new) refusals refusals' d sealed.outcome sealed.piped.voids) of_device sealed.piped.works) in

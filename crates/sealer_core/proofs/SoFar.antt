@@ -1,10 +1,10 @@
 -- What a run had written when it was killed.
 use Rattle.std.proofs.Common.{◌≡◌, ℕ, ◌+◌, ◌<◌, ◌≤◌, refl, sym, ap, subst, ◌∙◌, Bool, true, false, cond, nat_eq, List, [], ◌∷◌, ◌++◌, append_assoc, map, Option, Some, arith}
+use Rattle.std.specs.Prelude.{⊤}
 use Rattle.std.proofs.Math.Logic.{∥∥₁_elim, ∥∥₁_map}
 use Rattle.std.proofs.lemmas.List.{append_cancel_left}
 use Rattle.std.specs.List.{AllByRecursion}
 use Rattle.std.proofs.lemmas.List.Sums.{sum_by-cons}
-use Rattle.sha2.specs.Sha256.{sha256}
 use Rattle.command_core.specs.Session.{Begun, IsOfRange, IsSound, Session, begun_as, times_begun}
 use Rattle.container_core.specs.Container.{container}
 use Rattle.container_core.specs.Shape.{IsShape, ShapeView}
@@ -17,8 +17,15 @@ use Rattle.ledger_core.specs.Shared.{LedgerView, SeatView}
 use Rattle.output_core.specs.Bounds.{Bound, Container, IsWithin}
 use Rattle.sealer_core.specs.Outputs.{HasWritten, IsInside, IsOutput, Output, times_used}
 use Rattle.sealer_core.proofs.OutputLaws.{granted_inside}
-use Rattle.sealer_core.specs.Theorem.{EachBegins, EachHolds, WroteSoFar}
+use Rattle.sealer_core.specs.Theorem.{Begins, EachHolds}
 use Rattle.journal_core.proofs.Owners.{count_calls_le}
+
+-- each output's bytes begin its own of the containers that began
+abbrev pub EachBegins : List ℕ → ℕ → List (List ℕ) → List Begun → Type 0
+EachBegins key device [] [] = ⊤
+EachBegins key device (bytes ∷ outputs) (b ∷ begun) = Begins key device bytes b × EachBegins key device outputs begun
+EachBegins key device [] (b ∷ begun) = ⊥
+EachBegins key device (bytes ∷ outputs) [] = ⊥
 
 -- outputs that held these bytes, one for each container that began
 record Holding (key : List ℕ) (device : ℕ) (range : Numbers) (held : List (List ℕ)) (begun : List Begun) : Type 0 where
@@ -47,15 +54,17 @@ holding key device range (bytes ∷ held) (b ∷ begun) (is, are) ((plain, front
           let rest = more.counted number in omega arith;
     }
 
-pub had_written : (key : List ℕ) (terms : Terms) (held : List (List ℕ)) → IsLawfulRange terms.range → WroteSoFar key terms held
-    → (outputs : List Output) × (held ≡ map (λ (o : Output). o.held) outputs)
-    × HasWritten key terms.range.device (record { terms = terms; outputs = outputs })
-had_written key terms held lawful sofar =
-    let (under, range) = sofar.under in
-    let are = subst (λ (r : Numbers). AllByRecursion (IsOfRange r) sofar.session.begun) range sofar.sound.each in
-    let all = holding key terms.range.device terms.range held sofar.session.begun are sofar.begins in (
+-- these are what outputs held, and a run over the range has written those
+abbrev pub HeldInRange : List ℕ → Numbers → List (List ℕ) → Type 0
+HeldInRange key range held = (outputs : List Output) × (map (λ (o : Output). o.held) outputs ≡ held)
+    × HasWritten key range.device (record { range = range; outputs = outputs })
+
+pub had_written : (key : List ℕ) (session : Session) (held : List (List ℕ)) → IsLawfulRange session.range → IsSound session
+    → EachBegins key session.range.device held session.begun → HeldInRange key session.range held
+had_written key session held lawful sound begins =
+    let all = holding key session.range.device session.range held session.begun sound.each begins in (
       all.outputs,
-      all.held_are,
+      sym all.held_are,
       record {
         of_device = refl;
         lawful = lawful;
@@ -63,7 +72,7 @@ had_written key terms held lawful sofar =
         inside = all.inside;
         once = λ number.
             let same = all.counted number in
-            let one = sofar.sound.once number in omega arith;
+            let one = sound.once number in omega arith;
       },
     )
 
@@ -81,47 +90,36 @@ each_begins key device (bytes ∷ outputs) [] holds = absurd holds
 each_begins key device (bytes ∷ outputs) (b ∷ begun) (one, holds) =
     both one (each_begins key device outputs begun holds) (λ x y. (x, y))
 
-pub so_far : (key : List ℕ) (terms : Terms) (session : Session) (outputs : List (List ℕ)) → session.key_id ≡ sha256 key
-    → session.range ≡ terms.range → IsSound session → EachBegins key session.range.device outputs session.begun
-    → WroteSoFar key terms outputs
-so_far key terms session outputs same range sound begins = record {
-  session = session;
-  under = (same, range);
-  sound = sound;
-  begins = subst (λ (r : Numbers). EachBegins key r.device outputs session.begun) range begins;
-}
-
 few_in : (b : Bool) (k : ℕ) → k ≡ cond b 1 0 + 0 → k ≤ 1
 few_in true k is = omega arith
 few_in false k is = omega arith
 
--- one container began
-one_begun : (number n : ℕ) (shape : ShapeView) → times_begun n (begun_as number shape ∷ []) ≤ 1
-one_begun number n shape =
-    let first = sum_by-cons (λ (x : Begun). cond (nat_eq n x.number) 1 0) (begun_as number shape) [] in
-    few_in (nat_eq n number) (times_begun n (begun_as number shape ∷ [])) first
+one_used : (output : Output) (n : ℕ) → times_used n (output ∷ []) ≤ 1
+one_used output n =
+    few_in (nat_eq n output.number) (times_used n (output ∷ [])) (sum_by-cons (λ (o : Output). cond (nat_eq n o.number) 1 0) output [])
 
-pub stream_so_far : (key : List ℕ) (ledger : LedgerView) (seat : SeatView) (number : ℕ) (shape : ShapeView)
-    (bytes plain : List ℕ) (terms : Terms) → ledger.terms.range ≡ terms.range → IsHeld ledger seat number → IsShape shape
-    → IsFront bytes (container key shape (prefix_of ledger.terms.range.device number) plain)
-    → WroteSoFar key terms (bytes ∷ [])
-stream_so_far key ledger seat number shape bytes plain terms range held is_shape front =
+-- one container began
+pub stream_written : (key : List ℕ) (ledger : LedgerView) (seat : SeatView) (number : ℕ) (shape : ShapeView) (bytes : List ℕ)
+    → IsLawfulRange ledger.terms.range → IsHeld ledger seat number → IsShape shape
+    → Begins key ledger.terms.range.device bytes (begun_as number shape) → HeldInRange key ledger.terms.range (bytes ∷ [])
+stream_written key ledger seat number shape bytes lawful held is_shape (plain, front) =
     let some = held.granted in
     let seen : 0 < times_granted number seat.seen =
     (let few = count_calls_le (grants number) seat.number seat.seen in
     let own = ap (times_granted number) held.knows.own in omega arith) in
-    let inside = granted_inside seat.terms seat.seen (record { number = number; shape = shape; plain = plain; held = bytes })
-    held.knows.legal seen in
-    let same : seat.terms.range ≡ terms.range = ap (λ (t : Terms). t.range) held.ours.1 ∙ range in
-    let session : Session = record { key_id = sha256 key; range = terms.range; begun = begun_as number shape ∷ [] } in record {
-      session = session;
-      under = (refl, refl);
-      sound = record {
-        each = (record { inside = subst (λ (r : Numbers). (r.lo ≤ number) × (number < r.lo + r.size)) same inside; shape = is_shape }, tt);
-        once = λ n. one_begun number n shape;
-      };
-      begins = ((plain, subst (λ (r : Numbers). IsFront bytes (container key shape (prefix_of r.device number) plain)) range front), tt);
-    }
+    let output : Output = record { number = number; shape = shape; plain = plain; held = bytes } in
+    let inside = granted_inside seat.terms seat.seen output held.knows.legal seen in
+    let same : seat.terms.range ≡ ledger.terms.range = ap (λ (t : Terms). t.range) held.ours.1 in (
+      output ∷ [],
+      refl,
+      record {
+        of_device = refl;
+        lawful = lawful;
+        each = (record { shape = is_shape; begins = front }, tt);
+        inside = (subst (λ (r : Numbers). IsInside r output) same inside, tt);
+        once = one_used output;
+      },
+    )
 
 -- what a bounded output holds after what it took before it was bound
 some_is : (a b : List ℕ) → Some a ≡ Some b → a ≡ b

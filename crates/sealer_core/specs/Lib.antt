@@ -3,5 +3,6 @@ pub mod Group
 pub mod Life
 pub mod Outputs
 pub mod Piping
+pub mod Restored
 pub mod Sealing
 pub mod Theorem

@@ -6,11 +6,10 @@ use Rattle.journal_core.specs.declared.entry.Entry.{Entry}
 use Rattle.journal_core.specs.Range.{most_device, number_limit, range_of, prefix_of}
 use Rattle.journal_core.specs.History.{Legal, entry}
 use Rattle.ranges_core.specs.Reservations.{TakenRange, Adjacent, next_of}
-use Rattle.aead_core.specs.Aead.{aead}
 use Rattle.container_core.specs.Chunks.{chunks}
 use Rattle.container_core.specs.Shape.{ShapeView, size_of}
 use Rattle.container_core.specs.Container.{header_of}
-use Rattle.container_core.specs.Stream.{nonce_of, prefix_in, is_nil}
+use Rattle.sealer_core.specs.Outputs.{stream_nonces}
 
 -- one run
 pub data LedgerRun : Type 0 where
@@ -81,21 +80,7 @@ pub record ShapedPlain : Type 0 where
   pub shape : ShapeView
   pub plain : List ℕ
 
--- the nonces under which STREAM seals a list of chunks, the first of which has this number
-unfoldable pub stream_nonces : List ℕ → ℕ → List (List ℕ) → List (List ℕ)
-stream_nonces header number [] = []
-stream_nonces header number (chunk ∷ rest) = nonce_of (prefix_in header) number (is_nil rest) ∷ stream_nonces header
-    (number + 1) rest
-
 -- the nonces of the container of a plaintext under a grant, in a shape
 unfoldable pub container_nonces : List ℕ → LedgerGrant → ShapedPlain → List (List ℕ)
 container_nonces key grant sealing = stream_nonces (header_of key sealing.shape (prefix_by grant)) 0
     (chunks (size_of sealing.shape) sealing.plain)
-
--- chunks sealed by the AEAD one after another, each under the nonce at its place: its ciphertext, then its tag
-unfoldable pub sealed_under : List ℕ → List ℕ → List (List ℕ) → List (List ℕ) → List ℕ
-sealed_under key header [] list = []
-sealed_under key header (nonce ∷ nonces) [] = []
-sealed_under key header (nonce ∷ nonces) (chunk ∷ rest) =
-    let pair = aead key nonce header chunk in
-    (pair.0 ++ pair.1) ++ sealed_under key header nonces rest

@@ -1,5 +1,5 @@
-//! No nonce is used twice, over all runs of one key. This follows from the definitions of STREAM, ranges, legal
-//! histories and the life of a ledger file. Each law is the contract of a function that does nothing.
+//! Laws: no prefix and no nonce is used twice, over all runs of one key. They follow from the definitions of STREAM,
+//! ranges, legal histories and the life of a ledger file. Each is the contract of a function that does nothing.
 ghost use Rattle.std.specs.Prelude.{◌≡◌, ◌≢◌, ℕ, ◌+◌, ◌^◌, ◌<◌, ◌≤◌, ◌++◌, List, length, Some, slice_get};
 ghost use Rattle.std.specs.List.{AllByRecursion};
 ghost use Rattle.io_core.specs.Streams.{IsFront};
@@ -11,14 +11,15 @@ ghost use Rattle.container_core.specs.Container.{container, header_of};
 ghost use Rattle.container_core.specs.Shape.{IsShape, size_of};
 ghost use Rattle.ranges_core.specs.Reservations.{TakenRange};
 ghost use Rattle.sealer_core.specs.Life.{LedgerGrant, HasGrant, IsLife, Lives, LedgerRun, ShapedPlain};
-ghost use Rattle.sealer_core.specs.Life.{container_nonces, prefix_by, reserved, sealed_under};
+ghost use Rattle.sealer_core.specs.Life.{container_nonces, prefix_by, reserved};
 ghost use Rattle.sealer_core.specs.Outputs.{AreGranted, AreRuns, HoldsChunk, IsInside, IsOutput, Output, Place};
 ghost use Rattle.sealer_core.specs.Outputs.{StandsAt, Written, nonces_of};
-ghost use Rattle.sealer_core.specs.Outputs.{times_used};
+ghost use Rattle.sealer_core.specs.Outputs.{sealed_under, times_used};
 
 /// In the life of a key and device no number is in two of the ranges that its runs reserved.
 pub fn ranges_are_apart()
-    ensures { (device : ℕ) (runs : List LedgerRun) (i j number : ℕ) (one other : TakenRange) → IsLife device runs → i ≢ j
+    ensures { (device : ℕ) (runs : List LedgerRun) (i j number : ℕ) (one other : TakenRange)
+        → IsLife device runs → i ≢ j
         → slice_get (reserved runs) i ≡ Some one → slice_get (reserved runs) j ≡ Some other
         → one.lo ≤ number → number < one.lo + one.size → other.lo ≤ number → number < other.lo + other.size → ⊥ }
 {}

@@ -2,7 +2,8 @@
 //!
 //! `seal_all` and `pipe_all` are here, with the theorems over their runs (`theorem`). The engines are in `sealing_core`
 //! and `opening_core`. `command_core` has `open_all`, `verify_all`, `unpipe_all`, and the folders and lines of all
-//! commands. `laws` are on the life of a ledger file. `reserve_core` has the keeper of the ledger file, and its witness.
+//! commands. `reserve_core` has the keeper of the ledger file, and its witness. `laws` are on the life of a ledger
+//! file, and on outputs.
 #![tactic(auto)]
 
 mod ending;

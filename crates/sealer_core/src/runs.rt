@@ -47,7 +47,7 @@ pub fn a_run_has_written()
         old new failures later
         → (events : List Event) × (outputs : List Output) × (after ≡ before ++ events)
         × (written_in events ≡ map (λ output. output.held) outputs)
-        × HasWritten key terms.range.device (record { terms = terms; outputs = outputs })
+        × HasWritten key terms.range.device (record { range = terms.range; outputs = outputs })
         × AreGranted terms history outputs }
 {}
 
@@ -63,6 +63,6 @@ pub fn a_stream_has_written()
         refusals_then terms history status lines lines_then faults faults_then
         → (held : List ℕ) × (outputs : List Output) × (new ≡ old ++ held)
         × (held_in held ≡ map (λ output. output.held) outputs)
-        × HasWritten key terms.range.device (record { terms = terms; outputs = outputs })
+        × HasWritten key terms.range.device (record { range = terms.range; outputs = outputs })
         × AreGranted terms history outputs }
 {}

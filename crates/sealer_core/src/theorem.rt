@@ -1,5 +1,5 @@
 //! The theorems over runs: under one key no nonce is used twice, and what was opened was sealed. Their definitions are
-//! in `specs/Theorem.antt`.
+//! in `specs/Theorem.antt` and `specs/Outputs.antt`, and for the second in `specs/Restored.antt`.
 ghost use Rattle.std.specs.Prelude.{◌≡◌, ◌<◌, ◌≤◌, ℕ, ◌+◌, ◌*◌, ◌^◌, List, [], ◌∷◌, ◌++◌, length, map, Option, Some};
 ghost use Rattle.std.specs.Prelude.{Ok};
 ghost use Rattle.sha2.specs.Sha256.{sha256};
@@ -19,7 +19,7 @@ ghost use Rattle.journal_core.specs.declared.terms.Terms.{Terms};
 ghost use Rattle.journal_core.specs.Journal.{terms_of};
 ghost use Rattle.journal_core.specs.Range.{IsLawfulRange, Numbers, prefix_of};
 ghost use Rattle.ledger_core.specs.Shared.{LedgerView, SeatView};
-ghost use Rattle.sealer_core.specs.Outputs.{HasWritten, Output as Written, Place};
+ghost use Rattle.sealer_core.specs.Outputs.{Place};
 ghost use Rattle.output_core.specs.Bounds.{Container};
 ghost use Rattle.sqlite.specs.Files.{over_files};
 ghost use Rattle.sqlite_wal.specs.Reads.{AreClean};
@@ -29,10 +29,10 @@ ghost use Rattle.reserve_core.specs.NextRun.{AreIn, IsFound};
 ghost use Rattle.sealer_core.specs.Piping.{HasSealedStream, WorksStream};
 ghost use Rattle.sealer_core.specs.Sealing.{FoldsFiles, Happened, HasSealed, Sealing, held_in};
 ghost use Rattle.sealer_core.specs.Sealing.{sealed_name, written_in};
-ghost use Rattle.sealer_core.specs.Theorem.{AreRunsOf, Begins, BeginsContainer, EachHolds, HasChunk, HeldAt, IsAmong};
-ghost use Rattle.sealer_core.specs.Theorem.{IsLeftOf, IsRun, OpenedFiles, killed_run, Run, WasOpened, WasSealed};
-ghost use Rattle.sealer_core.specs.Theorem.{Wrote, WroteFiles};
-ghost use Rattle.sealer_core.specs.Theorem.{WroteStream, finished_in, read_in};
+ghost use Rattle.sealer_core.specs.Restored.{IsAmong, OpenedFiles, WasOpened, WasSealed, WroteFiles, WroteStream};
+ghost use Rattle.sealer_core.specs.Restored.{finished_in, read_in};
+ghost use Rattle.sealer_core.specs.Theorem.{AreRunsOf, Begins, BeginsContainer, EachHolds, HasChunk, HeldAt, IsLeftOf};
+ghost use Rattle.sealer_core.specs.Theorem.{IsRun, Run, held_by};
 
 use crate::laws::no_two_outputs_have_one_prefix;
 use crate::runs::{a_run_has_written, a_stream_has_written};
@@ -41,17 +41,6 @@ use output_core::Output;
 use reserve_core::LedgerFile;
 use sqlite::Files;
 use sqlite_disk::Disk;
-
-// A run wrote outputs; each held a prefix of a container under its own number.
-fn a_run_wrote_its_outputs()
-    ensures { (key : List ℕ) (terms : Terms) (history : List Entry) (held : List (List ℕ))
-        → IsLawfulRange terms.range → Wrote key terms history held
-        → (outputs : List Written) × (held ≡ map (λ output. output.held) outputs)
-        × HasWritten key terms.range.device (record { terms = terms; outputs = outputs }) }
-{
-    a_run_has_written();
-    a_stream_has_written();
-}
 
 // A range that was folded is after all that were found in the files. Over whatever a crash leaves of them, the next
 // range is after it.
@@ -67,14 +56,15 @@ fn a_fold_leaves_its_range<D: Disk + Drop>()
 
 /// No nonce is used twice. Take any number of runs of `seal_all` and `pipe_all` under one key, as any devices. Each
 /// found the ledger file of its device as those before it left it, over any crashes between. What their outputs held
-/// begins containers under the key, each under a number of its run's range. Each chunk of which such bytes have any has
-/// a nonce. Two chunks with one nonce, of any outputs, are the same chunk of the same output of the same run.
+/// begins containers under the key, each under a number of its run's range. Each chunk, with a number of 32 bits, of
+/// which such bytes have any has a nonce. Two chunks with one nonce, of any outputs, are the same chunk of the same
+/// output of the same run.
 ///
-/// Each run may be over a disk of its own type. The steps are the laws that are called here.
+/// Each run may be over a disk of its own type. That a call is such a run is shown below.
 pub fn no_nonce_is_used_twice()
     ensures sealed { (key : List ℕ) (runs : ℕ → List Run) (place : Place) (bytes : List ℕ)
-        → AreRunsOf key runs → (held : HeldAt runs place bytes) → (held.run.terms.range.device ≡ place.device)
-        × BeginsContainer key held.run.terms.range bytes }
+        → AreRunsOf key runs → (held : HeldAt runs place bytes) → (held.run.written.range.device ≡ place.device)
+        × BeginsContainer key held.run.written.range bytes }
     ensures each { (key : List ℕ) (range : Numbers) (bytes : List ℕ) (chunk : ℕ)
         → (begun : BeginsContainer key range bytes)
         → length (header_of key begun.shape (prefix_of range.device begun.number))
@@ -85,14 +75,13 @@ pub fn no_nonce_is_used_twice()
         → HasChunk key this chunk nonce → HasChunk key that another nonce
         → (one ≡ other) × (chunk ≡ another) }
 {
-    a_run_wrote_its_outputs();
     no_two_outputs_have_one_prefix();
 }
 
 /// A call over files is a run of the theorem. The premises: clause `run` of `seal_all` or `pipe_all`, for a range that
 /// was reserved in a ledger file whose keeper was made of what was found; the disk returned what was written; folder,
-/// reader and writer reported what they did. The outputs of the run are those that these reported. Its files are
-/// whatever a crash may leave of those that it folded.
+/// reader and writer reported what they did. The outputs of the run are those that these reported and that held any
+/// byte. Its files are whatever a crash may leave of those that it folded.
 pub fn a_call_is_a_run<D: Disk + Drop>()
     ensures files { (key : List ℕ) (shape : ShapeView) (device count lanes status most : ℕ) (names : List (List ℕ))
         (start files : Image) (keeper : _) (old new : _) (left : Files D) (range : Numbers) (history : List Entry)
@@ -103,7 +92,8 @@ pub fn a_call_is_a_run<D: Disk + Drop>()
         → IsShape shape → HasSealed (Happened key shape most range.device (Some before) (Some after)) names
         (terms_of range lanes) history status lines lines_then failures later
         → (run : Run) × IsRun key device run × (run.start ≡ start) × (run.files ≡ files)
-        × (events : List Event) × (after ≡ before ++ events) × (run.outputs ≡ written_in events) }
+        × (run.written.range ≡ range) × (events : List Event) × (after ≡ before ++ events)
+        × (held_by run ≡ written_in events) }
     ensures streams { (key : List ℕ) (shape : ShapeView) (device count status most : ℕ) (start files : Image)
         (keeper : _) (old new : _) (left : Files D) (range : Numbers) (history : List Entry)
         (input taken taken_then : List ℕ)
@@ -114,9 +104,11 @@ pub fn a_call_is_a_run<D: Disk + Drop>()
         → IsShape shape → HasSealedStream key shape most (Some input) unread failures later (Some taken)
         (Some taken_then) refusals more (terms_of range 1) history status lines lines_then faults faults_then
         → (run : Run) × IsRun key device run × (run.start ≡ start) × (run.files ≡ files)
-        × (bytes : List ℕ) × (taken_then ≡ taken ++ bytes) × (run.outputs ≡ held_in bytes) }
+        × (run.written.range ≡ range) × (bytes : List ℕ) × (taken_then ≡ taken ++ bytes)
+        × (held_by run ≡ held_in bytes) }
 {
     a_fold_leaves_its_range::<D>();
+    a_run_has_written();
     a_stream_has_written();
 }
 
@@ -129,23 +121,25 @@ pub fn what_an_output_holds<W: Output>()
         → ∥ ((plain : List ℕ) × IsFront bytes (container key shape prefix plain)) ∥₁ }
 {}
 
-/// A call that was killed is a run of the theorem, with no history. Its premises on the ledger file are those of
-/// `a_call_is_a_run`, up to the fold of a range. That it had folded one is shown when it declares under which key and
-/// range containers begin (`SealingFolder::start`, `SealingStream::allow_stream`: clause `stands`). Others hold at
-/// every moment. For `seal_all`: the containers that began have numbers of the range, no two the same (the law `sound`
-/// of `Folder`), and an output begins its own (`what_an_output_holds`). That each has one output is read in the code.
-/// For `pipe_all`: its stream begins a container, under a number that a seat of the ledger holds.
+/// A call that was killed is a run of the theorem: there is one, though its plaintexts aren't given. Its premises on
+/// the ledger file are those of `a_call_is_a_run`, up to the fold of a range. That it had folded one is shown when it
+/// declares under which key and range containers begin (`SealingFolder::start`, `SealingStream::allow_stream`: clause
+/// `stands`). Others hold at every moment. For `seal_all`: the containers that began have numbers of the range, no two
+/// the same (the law `sound` of `Folder`), and an output begins its own (`what_an_output_holds`). That each has one
+/// output, and that `start` got the call's own file, is read in the code. For `pipe_all`: its stream begins a
+/// container, under a number that a seat of the ledger holds.
 pub fn a_killed_call_is_a_run<D: Disk + Drop>()
-    ensures killed { (key : List ℕ) (device count seats : ℕ) (start files : Image) (keeper : _) (old new : _)
+    ensures killed { (key : List ℕ) (device count : ℕ) (start files : Image) (keeper : _) (old new : _)
         (left : Files D) (session : Session) (outputs : List (List ℕ))
         → old ≡ LedgerFile.Kept keeper → new ≡ LedgerFile.Folded left
         → IsFound (over_files {g = D.Disk}) start keeper → AreClean D.Disk left.log left.db
         → IsLeftOf D.Disk left files
         → FoldsFiles LedgerFile.Kept LedgerFile.Folded (sha256 key) device count old new session.range
         → IsLawfulRange session.range
-        → session.key_id ≡ sha256 key → ∥ IsSound session ∥₁
+        → ∥ IsSound session ∥₁
         → EachHolds key session.range.device outputs session.begun
-        → ∥ IsRun key device (killed_run start files (terms_of session.range seats) outputs) ∥₁ }
+        → ∥ ((run : Run) × IsRun key device run × (run.start ≡ start) × (run.files ≡ files)
+        × (run.written.range ≡ session.range) × (held_by run ≡ outputs)) ∥₁ }
     ensures stream { (key : List ℕ) (device count : ℕ) (start files : Image) (keeper : _) (old new : _)
         (left : Files D) (ledger : LedgerView) (seat : SeatView) (number : ℕ) (shape : ShapeView) (bytes : List ℕ)
         → old ≡ LedgerFile.Kept keeper → new ≡ LedgerFile.Folded left
@@ -154,16 +148,18 @@ pub fn a_killed_call_is_a_run<D: Disk + Drop>()
         → FoldsFiles LedgerFile.Kept LedgerFile.Folded (sha256 key) device count old new ledger.terms.range
         → IsLawfulRange ledger.terms.range → IsHeld ledger seat number → IsShape shape
         → ∥ Begins key ledger.terms.range.device bytes (begun_as number shape) ∥₁
-        → ∥ IsRun key device (killed_run start files (terms_of ledger.terms.range 1) (bytes ∷ [])) ∥₁ }
+        → ∥ ((run : Run) × IsRun key device run × (run.start ≡ start) × (run.files ≡ files)
+        × (run.written.range ≡ ledger.terms.range) × (held_by run ≡ bytes ∷ [])) ∥₁ }
 {
     a_fold_leaves_its_range::<D>();
 }
 
-/// What was opened was sealed. Take any run of `seal_all` or `pipe_all` under a key that ended (`IsRun` has one for
-/// each such run of the theorem above), and any call of `open_all` under that key. What the call opened of the bytes of
-/// an output that the run finished is, byte for byte, what the run had read of that output's file. What it opened of
-/// the bytes of a stream that the run sealed is the run's input. The same holds of what `unpipe_all` wrote, where its
-/// line says `opened` (`unpiped`, `back`). There is no premise on a ledger file or a disk.
+/// What was opened was sealed. Take any run that ended, of `seal_all` or `pipe_all` under a key (the premises of
+/// `a_call_is_a_run` make a `WroteFiles` or `WroteStream` of it), and any call of `open_all` under that key. What the
+/// call opened of the bytes of an output that the run finished is, byte for byte, what the run had read of that
+/// output's file. What it opened of the bytes of a stream that the run sealed is the run's input. The same holds of
+/// what `unpipe_all` wrote, where its line says `opened` (`unpiped`, `back`). There is no premise on a ledger file or a
+/// disk.
 ///
 /// To be opened a file may be read twice: the statement is about its last reading, from which the output was written,
 /// whatever an earlier one gave.
@@ -176,24 +172,24 @@ pub fn a_killed_call_is_a_run<D: Disk + Drop>()
 /// has its own events, as `Happened` and `AreWorked` say.) If the last reading of the input that was opened gave the
 /// output that was sealed, what was finished is, byte for byte, what had been read to be sealed.
 pub fn what_was_opened_was_sealed()
-    ensures runs { (key : List ℕ) (terms : Terms) (history : List Entry) (outputs : List (List ℕ))
-        (run : WroteFiles key terms history outputs) (call : OpenedFiles key) (output file bytes plain : List ℕ)
+    ensures runs { (key : List ℕ) (terms : Terms) (history : List Entry)
+        (run : WroteFiles key terms history) (call : OpenedFiles key) (output file bytes plain : List ℕ)
         → IsAmong (Finished output bytes) run.events → WasOpened call.to call.events file bytes plain
         → (source : List ℕ) × (output ≡ sealed_name source) × WasSealed run.events source plain bytes }
-    ensures piped { (key : List ℕ) (terms : Terms) (history : List Entry) (outputs : List (List ℕ))
-        (run : WroteStream key terms history outputs) (call : OpenedFiles key) (number count : ℕ)
+    ensures piped { (key : List ℕ) (terms : Terms) (history : List Entry)
+        (run : WroteStream key terms history) (call : OpenedFiles key) (number count : ℕ)
         (file plain : List ℕ)
         → run.outcome ≡ Sealed number count → WasOpened call.to call.events file run.bytes plain
         → plain ≡ run.input }
-    ensures unpiped { (key : List ℕ) (terms : Terms) (history : List Entry) (outputs : List (List ℕ))
-        (run : WroteFiles key terms history outputs) (output bytes name before plain : List ℕ) (most n : ℕ)
+    ensures unpiped { (key : List ℕ) (terms : Terms) (history : List Entry)
+        (run : WroteFiles key terms history) (output bytes name before plain : List ℕ) (most n : ℕ)
         (label : Option (List ℕ)) (events : List Event) (earlier : List (List ℕ))
         → IsAmong (Finished output bytes) run.events
         → Unpipes key most label name (Some before) (Some (before ++ plain)) (Opened n) events
         → read_in events ≡ earlier ++ bytes ∷ []
         → (source : List ℕ) × (output ≡ sealed_name source) × WasSealed run.events source plain bytes }
-    ensures back { (key : List ℕ) (terms : Terms) (history : List Entry) (outputs : List (List ℕ))
-        (run : WroteStream key terms history outputs) (number count most n : ℕ) (label : Option (List ℕ))
+    ensures back { (key : List ℕ) (terms : Terms) (history : List Entry)
+        (run : WroteStream key terms history) (number count most n : ℕ) (label : Option (List ℕ))
         (name before plain : List ℕ) (events : List Event) (earlier : List (List ℕ)) → run.outcome ≡ Sealed number count
         → Unpipes key most label name (Some before) (Some (before ++ plain)) (Opened n) events
         → read_in events ≡ earlier ++ run.bytes ∷ [] → plain ≡ run.input }
@@ -201,8 +197,8 @@ pub fn what_was_opened_was_sealed()
         → IsAmong (Finished output plain) call.events
         → (file : List ℕ) × (bytes : List ℕ) × (output ≡ output_for call.to file)
         × WasOpened call.to call.events file bytes plain × (most : ℕ) × (opening key most bytes ≡ Ok plain) }
-    ensures sealed { (key : List ℕ) (terms : Terms) (history : List Entry) (outputs : List (List ℕ))
-        (run : WroteFiles key terms history outputs) (output bytes : List ℕ)
+    ensures sealed { (key : List ℕ) (terms : Terms) (history : List Entry)
+        (run : WroteFiles key terms history) (output bytes : List ℕ)
         → IsAmong (Finished output bytes) run.events
         → (source : List ℕ) × (input : List ℕ) × (number : ℕ) × (output ≡ sealed_name source)
         × (bytes ≡ container key run.shape (prefix_of terms.range.device number) input)

@@ -3,13 +3,11 @@ use Rattle.sealer_core.proofs.Life.{begins, once}
 use Rattle.sealer_core.proofs.theorem.no_nonce_is_used_twice.Goals as goal
 
 pub returns-clause-sealed : goal.returns-clause-sealed
-returns-clause-sealed c key runs place bytes are held = begins key
-    (c.a_run_wrote_its_outputs.ensures key) runs are place bytes held
+returns-clause-sealed c key runs place bytes are held = begins key runs are place bytes held
 
 pub returns-clause-each : goal.returns-clause-each
 returns-clause-each c key range bytes chunk begun reached few = chunk_there key range bytes chunk begun reached few
 
 pub returns-clause-once : goal.returns-clause-once
-returns-clause-once c key runs one other this that chunk another nonce are held also has had = once key
-    (c.a_run_wrote_its_outputs.ensures key) runs are
+returns-clause-once c key runs one other this that chunk another nonce are held also has had = once key runs are
     (c.no_two_outputs_have_one_prefix.ensures key) one other this that chunk another nonce held also has had

@@ -2,28 +2,28 @@ use Rattle.sealer_core.proofs.Openings.{each_opened, held_of_run, of_files, of_r
 use Rattle.sealer_core.proofs.theorem.what_was_opened_was_sealed.Goals as goal
 
 pub returns-clause-runs : goal.returns-clause-runs
-returns-clause-runs c key terms history outputs run call output file bytes plain at was =
+returns-clause-runs c key terms history run call output file bytes plain at was =
     of_run key (λ bytes plain most at. let r = (c.opens_exactly_its_container.ensures.exactly key bytes plain most).0 at in (r.1, r.2))
     (λ prefix other plain another shape form one two seven too same. (c.containers_differ.ensures.plaintext key prefix other plain another shape form one two seven too same).2)
-    terms history outputs call run output file bytes plain at was
+    terms history call run output file bytes plain at was
 
 pub returns-clause-piped : goal.returns-clause-piped
-returns-clause-piped c key terms history outputs run call number count file plain is was =
+returns-clause-piped c key terms history run call number count file plain is was =
     of_stream_run key (λ bytes plain most at. let r = (c.opens_exactly_its_container.ensures.exactly key bytes plain most).0 at in (r.1, r.2))
     (λ prefix other plain another shape form one two seven too same. (c.containers_differ.ensures.plaintext key prefix other plain another shape form one two seven too same).2)
-    terms history outputs call run number count file plain is was
+    terms history call run number count file plain is was
 
 pub returns-clause-unpiped : goal.returns-clause-unpiped
-returns-clause-unpiped c key terms history outputs run output bytes name first before plain most n label events at done same =
+returns-clause-unpiped c key terms history run output bytes name first before plain most n label events at done same =
     unpiped_run key (λ bytes plain most at. let r = (c.opens_exactly_its_container.ensures.exactly key bytes plain most).0 at in (r.1, r.2))
     (λ prefix other plain another shape form one two seven too same. (c.containers_differ.ensures.plaintext key prefix other plain another shape form one two seven too same).2)
-    terms history outputs run output bytes name first before plain most n label events at done same
+    terms history run output bytes name first before plain most n label events at done same
 
 pub returns-clause-back : goal.returns-clause-back
-returns-clause-back c key terms history outputs run number count most n label name first before plain events is done same =
+returns-clause-back c key terms history run number count most n label name first before plain events is done same =
     unpiped_stream_run key (λ bytes plain most at. let r = (c.opens_exactly_its_container.ensures.exactly key bytes plain most).0 at in (r.1, r.2))
     (λ prefix other plain another shape form one two seven too same. (c.containers_differ.ensures.plaintext key prefix other plain another shape form one two seven too same).2)
-    terms history outputs run number count most n label name first before plain events is done same
+    terms history run number count most n label name first before plain events is done same
 
 pub returns-clause-opened : goal.returns-clause-opened
 returns-clause-opened c key call output plain at =
@@ -32,7 +32,7 @@ returns-clause-opened c key call output plain at =
     (file, bytes, named, was, most, opens)
 
 pub returns-clause-sealed : goal.returns-clause-sealed
-returns-clause-sealed c key terms history outputs run output bytes at = held_of_run key terms history outputs run output bytes at
+returns-clause-sealed c key terms history run output bytes at = held_of_run key terms history run output bytes at
 
 pub returns-clause-files : goal.returns-clause-files
 returns-clause-files c key shape device number bytes limit most n label name other target void before after events earlier is_shape sealed opened same =

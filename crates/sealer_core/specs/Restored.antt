@@ -1,0 +1,102 @@
+-- What was opened was sealed: what a run that ended read and finished, what a call opened, and what belongs to a line.
+use Rattle.std.specs.Prelude.{◌≡◌, ℕ, List, [], ◌∷◌, ◌++◌, Option, Some}
+use Rattle.container_core.specs.Shape.{IsShape, ShapeView}
+use Rattle.journal_core.specs.declared.entry.Entry.{Entry}
+use Rattle.journal_core.specs.declared.terms.Terms.{Terms}
+use Rattle.command_core.specs.declared.line.FileOutcome.{FileOutcome}
+use Rattle.command_core.specs.Trace.{Event, Reading, Unread, Rewound, Closed, Created, Refused, Finished, Discarded}
+use Rattle.command_core.specs.Trace.{Done}
+use Rattle.command_core.specs.Work.{AreWorked, IsOfOpening, Opening, output_for}
+use Rattle.sealer_core.specs.Piping.{HasSealedStream}
+use Rattle.sealer_core.specs.Sealing.{Happened, HasSealed, sealed_name}
+
+-- ---- a run that ended
+
+-- A run of `seal_all` (its clause `run`), over a folder that reported these events.
+pub record WroteFiles (key : List ℕ) (terms : Terms) (history : List Entry) : Type 0 where
+  -- every `Shape` is one
+  pub shape : ShapeView
+  pub is_shape : IsShape shape
+  pub names : List (List ℕ)
+  pub before : List Event
+  pub events : List Event
+  pub sealed : (most : ℕ) × (status : ℕ) × (old : Option (List ℕ)) × (new : Option (List ℕ)) × (failures : Option ℕ)
+      × (later : Option ℕ) × HasSealed (Happened key shape most terms.range.device (Some before)
+      (Some (before ++ events)))
+      names terms history status old new failures later
+
+-- A run of `pipe_all` (its clause `run`), over a reader that had this input and a writer that took these bytes. Its
+-- line says `outcome` of it.
+pub record WroteStream (key : List ℕ) (terms : Terms) (history : List Entry) : Type 0 where
+  pub shape : ShapeView
+  pub is_shape : IsShape shape
+  pub input : List ℕ
+  pub taken : List ℕ
+  pub bytes : List ℕ
+  pub outcome : FileOutcome
+  pub sealed : (most : ℕ) × (left : Option (List ℕ)) × (failures : Option ℕ) × (failures' : Option ℕ)
+      × (refusals : Option ℕ) × (refusals' : Option ℕ) × (status : ℕ) × (old : Option (List ℕ))
+      × (new : Option (List ℕ))
+      × (faults : Option ℕ) × (faults' : Option ℕ)
+      × (stream : HasSealedStream key shape most (Some input) left failures failures' (Some taken)
+      (Some (taken ++ bytes)) refusals refusals' terms history status old new faults faults')
+      × (stream.outcome ≡ outcome)
+
+-- ---- what was read and finished, for a line
+
+-- the bytes of the inputs that were read, in order
+abbrev pub read_in : List Event → List (List ℕ)
+read_in [] = []
+read_in (Reading name bytes ∷ events) = bytes ∷ read_in events
+read_in (Unread name ∷ events) = read_in events
+read_in (Rewound name failed ∷ events) = read_in events
+read_in (Closed name failed ∷ events) = read_in events
+read_in (Created name ∷ events) = read_in events
+read_in (Refused name fault ∷ events) = read_in events
+read_in (Finished name bytes ∷ events) = read_in events
+read_in (Discarded name bytes ∷ events) = read_in events
+read_in (Done name failed ∷ events) = read_in events
+
+-- those of the outputs that were finished
+abbrev pub finished_in : List Event → List (List ℕ)
+finished_in [] = []
+finished_in (Reading name bytes ∷ events) = finished_in events
+finished_in (Unread name ∷ events) = finished_in events
+finished_in (Rewound name failed ∷ events) = finished_in events
+finished_in (Closed name failed ∷ events) = finished_in events
+finished_in (Created name ∷ events) = finished_in events
+finished_in (Refused name fault ∷ events) = finished_in events
+finished_in (Finished name bytes ∷ events) = bytes ∷ finished_in events
+finished_in (Discarded name bytes ∷ events) = finished_in events
+finished_in (Done name failed ∷ events) = finished_in events
+
+-- ---- and by a call
+
+-- A call of `open_all` (its clause `files`), over a folder that reported these events. The name of the output may be
+-- given.
+pub record OpenedFiles (key : List ℕ) : Type 0 where
+  pub names : List (List ℕ)
+  pub to : Option (List ℕ)
+  pub before : List Event
+  pub events : List Event
+  pub opened : (most : ℕ) × (label : Option (List ℕ)) × (status : ℕ) × (old : Option (List ℕ))
+      × (new : Option (List ℕ)) × (failures : Option ℕ) × (later : Option ℕ)
+      × AreWorked (IsOfOpening to) (λ name. Opening key most label (output_for to name) name) names status old new
+      failures later (Some before) (Some (before ++ events))
+
+-- one of these events
+abbrev pub IsAmong : Event → List Event → Type 0
+IsAmong event events = (before : List Event) × (after : List Event) × (events ≡ before ++ event ∷ after)
+
+-- A file was read as `input`, right after that its output was created, and later it was finished with `bytes`.
+abbrev pub WasSealed : List Event → List ℕ → List ℕ → List ℕ → Type 0
+WasSealed events file input bytes = (before : List Event) × (between : List Event) × (after : List Event)
+    × (events ≡ before ++ Reading file input ∷ Created (sealed_name file) ∷ between
+    ++ Finished (sealed_name file) bytes ∷ after)
+
+-- The last reading of a file gave `bytes`, and right after that its output was created, and finished with `plain`. The
+-- name of the output may be given.
+abbrev pub WasOpened : Option (List ℕ) → List Event → List ℕ → List ℕ → List ℕ → Type 0
+WasOpened to events file bytes plain = (before : List Event) × (after : List Event)
+    × (events
+    ≡ before ++ Reading file bytes ∷ Created (output_for to file) ∷ Finished (output_for to file) plain ∷ after)
