@@ -178,7 +178,7 @@ impl Cause {
 }
 
 /// What refused a ledger file.
-#[derive(Clone, Copy, PartialEq, Eq, Debug)]
+#[derive(Clone, Copy, PartialEq, Eq)]
 pub enum Step {
     /// The checks of a run that seals, before anything is written to it.
     Check,
@@ -191,7 +191,7 @@ pub enum Step {
 }
 
 /// What a fault is about.
-#[derive(Clone, Copy, Debug)]
+#[derive(Clone, Copy)]
 pub enum About<'a> {
     /// Something whose cause is known.
     Known(Cause),

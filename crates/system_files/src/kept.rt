@@ -13,7 +13,7 @@ use std::fs;
 use std::rt::Files;
 
 /// What a run makes of a FILE.
-#[derive(Clone, Copy, PartialEq, Eq, Debug)]
+#[derive(Clone, Copy)]
 pub enum Makes {
     /// Its container, under its name with `.stm` added.
     Container,

@@ -9,7 +9,7 @@ use std::fs::Metadata;
 use std::rt::Files;
 
 /// How names denote paths.
-#[derive(Clone, Copy, PartialEq, Eq, Debug)]
+#[derive(Clone, Copy, PartialEq, Eq)]
 pub enum Names {
     /// Each is its path.
     Plain,
@@ -18,7 +18,7 @@ pub enum Names {
 }
 
 /// Where the outputs of a run go.
-#[derive(Clone, Copy, Debug)]
+#[derive(Clone, Copy)]
 pub enum Target<'a> {
     /// Where their paths say.
     AsNamed,

@@ -17,7 +17,7 @@ pub(crate) const STANDARD_INPUT: &str = "/proc/self/fd/0";
 pub(crate) const STANDARD_OUTPUT: &str = "/proc/self/fd/1";
 
 /// A file's identity, the same by every path.
-#[derive(Clone, Copy, PartialEq, Eq, Debug)]
+#[derive(Clone, Copy, PartialEq, Eq)]
 pub struct FileId {
     /// The number of its device.
     pub device: u64,
@@ -36,7 +36,7 @@ impl FileId {
 }
 
 /// A ledger file and those that its database keeps beside it. A file that isn't there is `None`.
-#[derive(Clone, Copy, Debug)]
+#[derive(Clone, Copy)]
 pub struct LedgerFiles {
     /// The ledger file.
     pub ledger: Option<FileId>,
@@ -83,7 +83,7 @@ impl LedgerFiles {
 }
 
 /// The paths of a run's own files.
-#[derive(Clone, Copy, Debug)]
+#[derive(Clone, Copy)]
 pub struct OwnPaths<'a> {
     /// That of the ledger file.
     pub ledger: &'a str,
@@ -96,7 +96,7 @@ pub struct OwnPaths<'a> {
 }
 
 /// A run's own files. A file that isn't there is `None`.
-#[derive(Clone, Copy, Debug)]
+#[derive(Clone, Copy)]
 pub struct OwnFiles {
     /// The ledger file and those beside it.
     pub ledger: LedgerFiles,
@@ -138,7 +138,7 @@ impl OwnFiles {
 }
 
 /// A file that a run made, and that is no input either.
-#[derive(Clone, Copy, PartialEq, Eq, Debug)]
+#[derive(Clone, Copy, PartialEq, Eq)]
 pub enum KeptOut {
     /// There is none.
     Nothing,

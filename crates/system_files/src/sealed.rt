@@ -56,7 +56,7 @@ impl<R: Source + Drop> Source for Keeping<R> {
 }
 
 /// What a journal says of a number of its range.
-#[derive(Clone, Copy, PartialEq, Eq, Debug)]
+#[derive(Clone, Copy, PartialEq, Eq)]
 enum State {
     /// It isn't settled as sealed.
     Other,

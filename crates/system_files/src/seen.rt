@@ -22,7 +22,7 @@ const MAGIC: [u8; 8] = *b"STRMSEAL";
 const EXPONENT: u8 = 16;
 
 /// What a header says. Nothing of it was authenticated.
-#[derive(Clone, Copy, PartialEq, Eq, Debug)]
+#[derive(Clone, Copy)]
 pub struct Seen {
     /// The version, the size of chunks, the device, the number and the label.
     pub facts: Facts,

@@ -10,7 +10,7 @@ use std::fmt;
 use std::fmt::Write;
 
 /// The line of a container that `show` looked at.
-#[derive(Clone, Copy, PartialEq, Eq, Debug)]
+#[derive(Clone, Copy)]
 pub struct Shown<'a> {
     /// The name, as it was given.
     pub name: &'a str,
@@ -70,7 +70,7 @@ impl fmt::Display for Length {
 }
 
 /// The line of a key of which a ledger has no range.
-#[derive(Clone, Copy, PartialEq, Eq, Debug)]
+#[derive(Clone, Copy)]
 pub struct KeyAlone {
     /// The key's hint.
     pub hint: [u8; 7],
