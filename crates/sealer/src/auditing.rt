@@ -2,7 +2,7 @@
 ghost use Rattle.sealer.specs.Audit.{IsAudited, IsPlain};
 
 use crate::showing::{Containers, Look, TellFault, containers_of, look_over, tell_missing};
-use crate::{Streams, complain};
+use crate::{Streams, print_complaint};
 use clap::ArgMatches;
 use command_line::{UsageFault, against_asked, list_request};
 use ledger_core::{FromRead, ToWrite};
@@ -13,7 +13,7 @@ use system_files::{Keeping, SealedNumbers};
 
 /// Audits an input. With `--against` the numbers that a legal journal settles as sealed are compared with those of
 /// containers. Returns the status, with the streams.
-pub(crate) fn audit<
+pub(crate) fn audit_as_asked<
     R: Files + AllocGlobal + Eprint,
     I: Read + Drop,
     O: Write + Drop,
@@ -25,7 +25,7 @@ pub(crate) fn audit<
     match against_asked(matches) {
         Ok(true) => audit_against(rt, matches, input, streams),
         Ok(false) => audit_input(rt, input, streams),
-        Err(fault) => (complain(rt, "usage", fault), streams),
+        Err(fault) => (print_complaint(rt, "usage", fault), streams),
     }
 }
 
@@ -41,7 +41,7 @@ fn audit_input<R: AllocGlobal + Eprint, I: Read + Drop, O: Write + Drop, E: Writ
     let mut streams = streams;
     let status = match run_audit(rt.alloc(), &mut FromRead(input), &mut streams.output) {
         Ok(status) => status,
-        Err(fault) => complain(rt, "audit", fault),
+        Err(fault) => print_complaint(rt, "audit", fault),
     };
     (status, streams)
 }
@@ -56,7 +56,10 @@ fn audit_against<R: Files + AllocGlobal + Eprint, I: Read + Drop, O: Write + Dro
     let (mut input, mut streams) = (input, streams);
     match list_request(matches) {
         Some(list) if list.path == "-" => {
-            return (complain(rt, "usage", UsageFault::InputIsJournal), streams);
+            return (
+                print_complaint(rt, "usage", UsageFault::InputIsJournal),
+                streams,
+            );
         }
         _ => {}
     }
@@ -68,7 +71,7 @@ fn audit_against<R: Files + AllocGlobal + Eprint, I: Read + Drop, O: Write + Dro
     let status = match run_audit(rt.alloc(), &mut journal, &mut streams.output) {
         Ok(0) => compare(rt, &journal, &containers, &mut streams.output),
         Ok(status) => status,
-        Err(fault) => complain(rt, "audit", fault),
+        Err(fault) => print_complaint(rt, "audit", fault),
     };
     (status, streams)
 }
@@ -82,14 +85,14 @@ fn compare<R: Files + AllocGlobal + Eprint, I: Read + Drop, O: Write + Drop>(
 ) -> u8 {
     let sealed = match journal.text() {
         Some(text) => SealedNumbers::of(rt.alloc(), text),
-        None => return complain(rt, "audit", TellFault::OutOfMemory),
+        None => return print_complaint(rt, "audit", TellFault::OutOfMemory),
     };
     let Ok(Some(mut sealed)) = sealed else {
-        return complain(rt, "audit", TellFault::OutOfMemory);
+        return print_complaint(rt, "audit", TellFault::OutOfMemory);
     };
     match fitting(rt, &mut sealed, containers, output) {
         Ok(status) => status,
-        Err(fault) => complain(rt, "audit", fault),
+        Err(fault) => print_complaint(rt, "audit", fault),
     }
 }
 

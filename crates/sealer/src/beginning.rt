@@ -38,7 +38,7 @@ pub(crate) struct Beginning<'a> {
 
 /// Begins a run that seals: reads the key file, and creates the journal. A fault is printed, with `causes` its cause too,
 /// and the error is its status.
-pub(crate) fn begin<R: Files + AllocGlobal + Clock + Eprint>(
+pub(crate) fn begin_run<R: Files + AllocGlobal + Clock + Eprint>(
     rt: &R,
     asked: Beginning<'_>,
     causes: bool,
@@ -127,7 +127,7 @@ pub(crate) fn comes_again(turn: &mut Turn<'_>, refusal: Refusal) -> bool {
 }
 
 /// Prints why a run can't begin, with `causes` the cause too. Returns the status.
-pub(crate) fn refuse<R: Files + AllocGlobal + Eprint>(
+pub(crate) fn refuse_run<R: Files + AllocGlobal + Eprint>(
     rt: &R,
     refusal: Refusal,
     ledger: &str,

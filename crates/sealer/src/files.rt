@@ -30,7 +30,7 @@ pub(crate) fn key_at<R: Files + AllocGlobal + Eprint>(
 ) -> Result<Key, u8>
     ensures status { IfErr result (λ status. status ≡ FAULT) }
 {
-    match key_of(rt, path) {
+    match key_in_file(rt, path) {
         Ok(key) => {
             if causes && is_for_others(rt, path) {
                 let _ = eprintln!(rt; "warning: {path} can be read by others");
@@ -46,7 +46,7 @@ pub(crate) fn key_at<R: Files + AllocGlobal + Eprint>(
 }
 
 // Reads the key from the file at this path.
-fn key_of<R: Files + AllocGlobal>(rt: &R, path: &str) -> Result<Key, KeyFault> {
+fn key_in_file<R: Files + AllocGlobal>(rt: &R, path: &str) -> Result<Key, KeyFault> {
     match open_unbuffered(rt, path) {
         Ok(file) => read_key(&mut FromRead(file)),
         Err(_) => Err(KeyFault::CannotOpen),
@@ -144,7 +144,7 @@ pub(crate) fn quotes_of(
 
 /// Returns the names of the command line, then all that the list has between its separators, as lines show them. It
 /// prints a line for each of the latter that is no name.
-pub(crate) fn pieces_of<R: AllocGlobal + Eprint>(
+pub(crate) fn list_pieces<R: AllocGlobal + Eprint>(
     rt: &R,
     matches: &ArgMatches<'_>,
     list: &Option<NameList>,

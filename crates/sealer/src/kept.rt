@@ -9,7 +9,7 @@ ghost use Rattle.system_files.specs.declared.names.Target.TheVariants.{Into, Tre
 
 use crate::files::names_for;
 use crate::telling::{explain_clash, origin_of, tell_clashes};
-use crate::{FAULT, complain};
+use crate::{FAULT, print_complaint};
 use clap::ArgMatches;
 use command_line::{Naming, UsageFault};
 use ledger_core::Sink;
@@ -64,7 +64,7 @@ pub(crate) fn worked_of<'n, R: Files + AllocGlobal + Eprint, W: Sink>(
     }
     let split = match split_names(rt, to, skip, names) {
         Ok(split) => split,
-        Err(_) => return Err(complain(rt, "usage", UsageFault::OutOfMemory)),
+        Err(_) => return Err(print_complaint(rt, "usage", UsageFault::OutOfMemory)),
     };
     match print_kept(rt.alloc(), split.kept.as_slice(), lines) {
         Ok(()) => Ok(split.others),
@@ -90,7 +90,7 @@ fn check_names<R: AllocGlobal + Eprint>(
     let Err(fault) = check_apart(rt.alloc(), to.target, names) else {
         return Ok(());
     };
-    let status = complain(rt, "usage", fault);
+    let status = print_complaint(rt, "usage", fault);
     if causes {
         explain_clash(rt, origin_of(matches), to, names, fault);
     }

@@ -4,7 +4,7 @@ ghost use Rattle.container_core.specs.Container.{hint_of};
 
 use crate::files::key_at;
 use crate::showing::{Containers, Look, TellFault, containers_of, look_over, print};
-use crate::{Streams, complain, explain};
+use crate::{Streams, explain, print_complaint};
 use clap::ArgMatches;
 use command_line::against_asked;
 use container_core::Key;
@@ -49,7 +49,7 @@ pub(crate) fn tell_ledger<
     let held = held.as_slice();
     let status = match tell_held(rt, held, hint, &containers, &mut streams.output) {
         Ok(status) => status,
-        Err(fault) => complain(rt, "ledger", fault),
+        Err(fault) => print_complaint(rt, "ledger", fault),
     };
     (status, streams)
 }
@@ -67,7 +67,7 @@ fn asked_containers<R: Files + AllocGlobal + Eprint, I: Read>(
             Err(status) => Err(status),
         },
         Ok(false) => Ok(None),
-        Err(fault) => Err(complain(rt, "usage", fault)),
+        Err(fault) => Err(print_complaint(rt, "usage", fault)),
     }
 }
 

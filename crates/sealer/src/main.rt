@@ -26,17 +26,17 @@ mod styles;
 mod telling;
 mod unpiping;
 
-use crate::auditing::audit;
-use crate::files::{about_list, names_of, pieces_of, quotes_of, read_list};
+use crate::auditing::audit_as_asked;
+use crate::files::{about_list, list_pieces, names_of, quotes_of, read_list};
 use crate::heard::Heard;
 use crate::ledger::tell_ledger;
-use crate::opening::open;
-use crate::piping::pipe;
-use crate::sealing::seal;
-use crate::showing::show;
+use crate::opening::open_as_asked;
+use crate::piping::pipe_as_asked;
+use crate::sealing::seal_as_asked;
+use crate::showing::show_as_asked;
 use crate::styles::asked_of;
 use crate::telling::refuse_list;
-use crate::unpiping::unpipe;
+use crate::unpiping::unpipe_as_asked;
 use clap::{ArgMatches, Error};
 use command_line::{
     Naming, Reading, asks_for_processors, borrowed, command, naming_asked, verbose_asked, write_out,
@@ -63,7 +63,7 @@ const FREED: usize = (1 << 25) - (1 << 16);
 fn main(rt: HostRuntime) -> ExitCode {
     keep_freed_memory(rt.alloc());
     let _streams = stand_ins(&rt);
-    let Some(words) = words_of(&rt) else {
+    let Some(words) = command_words(&rt) else {
         return ExitCode::from(FAULT);
     };
     let status = match parse(rt.alloc(), words.as_slice()) {
@@ -168,7 +168,7 @@ pub(crate) enum OverFiles {
 }
 
 /// The words of the command line, with their numbers in digits. A fault is printed.
-fn words_of<R: Env + AllocGlobal + Eprint + Threads>(rt: &R) -> Option<Vec<String>> {
+fn command_words<R: Env + AllocGlobal + Eprint + Threads>(rt: &R) -> Option<Vec<String>> {
     let Ok(arguments) = std::env::args(rt) else {
         let _ = eprintln!(rt; "usage: an argument is no text");
         return None;
@@ -227,7 +227,7 @@ fn is_verbose(matches: &ArgMatches<'_>) -> bool {
 }
 
 /// Prints on standard error what is at fault, and why. Returns the status.
-pub(crate) fn complain<R: Eprint, F: Display + Drop>(rt: &R, subject: &str, fault: F) -> u8
+pub(crate) fn print_complaint<R: Eprint, F: Display + Drop>(rt: &R, subject: &str, fault: F) -> u8
     ensures status { result ≡ FAULT }
 {
     let _ = eprintln!(rt; "{subject}: {fault}");
@@ -244,7 +244,7 @@ pub(crate) fn explain<R: Files + AllocGlobal + Eprint, F: Display + Drop>(
 ) -> u8
     ensures status { result ≡ FAULT }
 {
-    let status = complain(rt, subject, fault);
+    let status = print_complaint(rt, subject, fault);
     if causes {
         tell_cause(rt, about);
     }
@@ -294,8 +294,8 @@ fn run<
 {
     match matches.subcommand() {
         Some(("seal", asked)) => over_files(rt, host, OverFiles::Seal, asked, input, streams),
-        Some(("pipe", asked)) => pipe(rt, host, asked, input, streams),
-        Some(("unpipe", asked)) => unpipe(rt, asked, input, streams),
+        Some(("pipe", asked)) => pipe_as_asked(rt, host, asked, input, streams),
+        Some(("unpipe", asked)) => unpipe_as_asked(rt, asked, input, streams),
         Some(("open", asked)) => {
             let open = OverFiles::Read(Reading::Open);
             over_files(rt, host, open, asked, input, streams)
@@ -304,9 +304,9 @@ fn run<
             let verify = OverFiles::Read(Reading::Verify);
             over_files(rt, host, verify, asked, input, streams)
         }
-        Some(("show", asked)) => show(rt, asked, input, streams),
+        Some(("show", asked)) => show_as_asked(rt, asked, input, streams),
         Some(("ledger", asked)) => tell_ledger(rt, asked, input, streams),
-        Some(("audit", asked)) => audit(rt, asked, input, streams),
+        Some(("audit", asked)) => audit_as_asked(rt, asked, input, streams),
         _ => (FAULT, streams),
     }
 }
@@ -347,9 +347,9 @@ fn over_files<
             Ok(shown) => over_shown(rt, host, command, matches, shown.as_slice(), input, streams),
             Err(fault) => (refuse_list(rt, &list, fault, causes), streams),
         },
-        Naming::KeepGoing => match pieces_of(rt, matches, &list) {
+        Naming::KeepGoing => match list_pieces(rt, matches, &list) {
             Ok(shown) => over_shown(rt, host, command, matches, shown.as_slice(), input, streams),
-            Err(fault) => (complain(rt, "usage", fault), streams),
+            Err(fault) => (print_complaint(rt, "usage", fault), streams),
         },
     }
 }
@@ -374,7 +374,7 @@ fn over_shown<
 {
     match borrowed(rt.alloc(), shown) {
         Ok(names) => over_names(rt, host, command, matches, names.as_slice(), input, streams),
-        Err(fault) => (complain(rt, "usage", fault), streams),
+        Err(fault) => (print_complaint(rt, "usage", fault), streams),
     }
 }
 
@@ -397,7 +397,7 @@ fn over_names<
         (map (λ name. name.now) names.now) (O.contents streams.output.0) (O.contents result.1.output.0) }
 {
     match command {
-        OverFiles::Seal => seal(rt, host, matches, names, streams),
-        OverFiles::Read(reading) => open(rt, reading, matches, names, input, streams),
+        OverFiles::Seal => seal_as_asked(rt, host, matches, names, streams),
+        OverFiles::Read(reading) => open_as_asked(rt, reading, matches, names, input, streams),
     }
 }

@@ -6,7 +6,7 @@ ghost use Rattle.sealer.specs.Status.{IsOfCommand, IsOfReading, IsStatusOf, IsSt
 use crate::files::{clear, key_at, outs_of, progress_of, streams_of};
 use crate::kept::{destination_of, worked_of};
 use crate::telling::reading_names;
-use crate::{OverFiles, Streams, complain};
+use crate::{OverFiles, Streams, print_complaint};
 use clap::ArgMatches;
 use command_line::{OpenRequest, Reading, UsageFault, naming_asked, open_request};
 use container_core::{Key, MAX_OPENED};
@@ -19,7 +19,7 @@ use std::thread::Threads;
 use system_files::{FileOptions, Makes, Names, SystemFiles, can_reopen_input};
 
 /// Opens or verifies the files of these names, of which `-` is the input. Returns the status, with the streams.
-pub(crate) fn open<
+pub(crate) fn open_as_asked<
     R: Files + AllocGlobal + Clock + Eprint + Threads + Sync,
     I: Read + Drop,
     O: Write + Drop,
@@ -36,14 +36,17 @@ pub(crate) fn open<
         (map (λ name. name.now) names.now) (O.contents streams.output.0) (O.contents result.1.output.0) }
 {
     let Some(readers) = reading_names(rt, reading, matches, names) else {
-        return (complain(rt, "usage", UsageFault::OutOfMemory), streams);
+        return (
+            print_complaint(rt, "usage", UsageFault::OutOfMemory),
+            streams,
+        );
     };
     let readers = readers.as_slice();
-    open_asked(rt, reading, matches, names, readers, input, streams)
+    open_requested(rt, reading, matches, names, readers, input, streams)
 }
 
 // The same, once it is known for which names it is looked at who reads standard input.
-fn open_asked<
+fn open_requested<
     R: Files + AllocGlobal + Clock + Eprint + Threads + Sync,
     I: Read + Drop,
     O: Write + Drop,
@@ -62,7 +65,7 @@ fn open_asked<
 {
     let request = match open_request(reading, matches, readers) {
         Ok(request) => request,
-        Err(fault) => return (complain(rt, "usage", fault), streams),
+        Err(fault) => return (print_complaint(rt, "usage", fault), streams),
     };
     let mut streams = streams;
     let naming = naming_asked(matches);

@@ -17,10 +17,10 @@ ghost use Rattle.sealer_core.specs.Sealing.{FoldsFiles, IsWritten, ReservesFiles
 ghost use Rattle.sealer.specs.Status.{IsOfPiping, IsStatusOf};
 
 use crate::beginning::{
-    Beginning, Begun, Refusal, begin, comes_again, journal_path, ledger_of, look, refuse,
+    Beginning, Begun, Refusal, begin_run, comes_again, journal_path, ledger_of, look, refuse_run,
     tell_unrecorded, witness_asked,
 };
-use crate::{Streams, complain};
+use crate::{Streams, print_complaint};
 use clap::ArgMatches;
 use command_line::{PipeRequest, UsageFault, pipe_request};
 use container_core::Key;
@@ -38,7 +38,7 @@ use system_ledger::{LedgerFault, MAX_TRIES, Turn, close_ledger, open_ledger};
 
 /// Seals the input and writes the container to the output. A terminal is refused as output, unless it was asked for.
 /// Returns the status, with the streams.
-pub(crate) fn pipe<
+pub(crate) fn pipe_as_asked<
     R: Files + AllocGlobal + Clock + Eprint + Threads + Wait + Sync,
     I: Read + Drop,
     O: Write + Drop,
@@ -55,10 +55,10 @@ pub(crate) fn pipe<
 {
     let request = match pipe_request(matches) {
         Ok(request) => request,
-        Err(fault) => return (complain(rt, "usage", fault), streams),
+        Err(fault) => return (print_complaint(rt, "usage", fault), streams),
     };
     if streams.terminals.output && !request.to_terminal {
-        return (complain(rt, "usage", UsageFault::Terminal), streams);
+        return (print_complaint(rt, "usage", UsageFault::Terminal), streams);
     }
     pipe_to(rt, host, &request, input, streams)
 }
@@ -90,7 +90,7 @@ fn pipe_to<
         folder: request.journal_in,
         device: request.device,
     };
-    let Begun { key, journal, path } = match begin(rt, asked, causes) {
+    let Begun { key, journal, path } = match begin_run(rt, asked, causes) {
         Ok(begun) => begun,
         Err(status) => return (status, streams),
     };
@@ -162,13 +162,13 @@ fn pipe_in_turn<
             Ok(status) => return status,
             Err(refusal) => {
                 if !comes_again(&mut turn, refusal) {
-                    return refuse(rt, refusal, request.ledger, request.witness, causes);
+                    return refuse_run(rt, refusal, request.ledger, request.witness, causes);
                 }
             }
         }
     }
     let refusal = Refusal::Ledger(LedgerFault::Held, Step::Open);
-    refuse(rt, refusal, request.ledger, request.witness, causes)
+    refuse_run(rt, refusal, request.ledger, request.witness, causes)
 }
 
 // Seals the input if the ledger file can be opened now. Else nothing was read, written or printed.

@@ -16,12 +16,12 @@ ghost use Rattle.sealer_core.specs.Sealing.{FoldsFiles, Happened, HasSealed, IsO
 ghost use Rattle.sealer.specs.Status.{IsOfCommand, IsStatusOf, IsStatusOver};
 
 use crate::beginning::{
-    Beginning, Begun, Refusal, begin, comes_again, ledger_of, look, refuse, tell_unrecorded,
-    witness_asked,
+    Beginning, Begun, Refusal, begin_run, comes_again, ledger_of, look, refuse_run,
+    tell_unrecorded, witness_asked,
 };
 use crate::files::{clear, outs_of, progress_of, streams_of};
 use crate::kept::{destination_of, worked_of};
-use crate::{OverFiles, Streams, complain};
+use crate::{OverFiles, Streams, print_complaint};
 use clap::ArgMatches;
 use command_line::{SealRequest, naming_asked, seal_request};
 use container_core::Key;
@@ -38,7 +38,7 @@ use system_files::{FileOptions, Makes, OwnPaths, Step, SystemFiles};
 use system_ledger::{LedgerFault, MAX_TRIES, Turn, close_ledger, open_ledger};
 
 /// Seals the files of these names. Returns the status, with the streams.
-pub(crate) fn seal<
+pub(crate) fn seal_as_asked<
     R: Files + AllocGlobal + Clock + Eprint + Threads + Wait + Sync,
     O: Write + Drop,
     E: Write + Drop,
@@ -54,7 +54,7 @@ pub(crate) fn seal<
 {
     let request = match seal_request(matches, names) {
         Ok(request) => request,
-        Err(fault) => return (complain(rt, "usage", fault), streams),
+        Err(fault) => return (print_complaint(rt, "usage", fault), streams),
     };
     let mut streams = streams;
     let naming = naming_asked(matches);
@@ -130,7 +130,7 @@ fn seal_to<
         folder: request.journal_in,
         device: request.device,
     };
-    let Begun { key, journal, path } = match begin(rt, asked, causes) {
+    let Begun { key, journal, path } = match begin_run(rt, asked, causes) {
         Ok(begun) => begun,
         Err(status) => return (status, streams),
     };
@@ -176,13 +176,13 @@ fn seal_in_turn<
             Ok(status) => return status,
             Err(refusal) => {
                 if !comes_again(&mut turn, refusal) {
-                    return refuse(rt, refusal, request.ledger, request.witness, causes);
+                    return refuse_run(rt, refusal, request.ledger, request.witness, causes);
                 }
             }
         }
     }
     let refusal = Refusal::Ledger(LedgerFault::Held, Step::Open);
-    refuse(rt, refusal, request.ledger, request.witness, causes)
+    refuse_run(rt, refusal, request.ledger, request.witness, causes)
 }
 
 // Seals the files if the ledger file can be opened now. Else nothing was touched or printed.

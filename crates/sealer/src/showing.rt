@@ -1,8 +1,8 @@
 //! The commands that look at the headers of containers alone: `show`, and `ledger` and `audit` with `--against`.
 
-use crate::files::{about_list, names_of, pieces_of, quotes_of, read_list};
+use crate::files::{about_list, list_pieces, names_of, quotes_of, read_list};
 use crate::telling::refuse_list;
-use crate::{Streams, complain, explain};
+use crate::{Streams, explain, print_complaint};
 use clap::ArgMatches;
 use command_line::{Naming, UsageFault, naming_asked};
 use container_core::OpenFault;
@@ -49,7 +49,7 @@ pub(crate) struct Containers {
 }
 
 /// Prints a line about the header of each container.
-pub(crate) fn show<
+pub(crate) fn show_as_asked<
     R: Files + AllocGlobal + Eprint,
     I: Read + Drop,
     O: Write + Drop,
@@ -62,7 +62,7 @@ pub(crate) fn show<
     };
     let status = match look_over(rt, Look::Show, &containers, &mut streams.output) {
         Ok(status) => status,
-        Err(fault) => complain(rt, "show", fault),
+        Err(fault) => print_complaint(rt, "show", fault),
     };
     (status, streams)
 }
@@ -88,10 +88,10 @@ pub(crate) fn containers_of<R: Files + AllocGlobal + Eprint, I: Read>(
             Err(fault) => Err(fault),
         },
         Naming::Quoted => quotes_of(rt.alloc(), matches, &list),
-        Naming::KeepGoing => pieces_of(rt, matches, &list),
+        Naming::KeepGoing => list_pieces(rt, matches, &list),
     };
     match names {
-        Ok(names) if names.is_empty() => Err(complain(rt, "usage", UsageFault::NoFiles)),
+        Ok(names) if names.is_empty() => Err(print_complaint(rt, "usage", UsageFault::NoFiles)),
         Ok(names) => Ok(Containers {
             names,
             is_quoted: naming != Naming::Plain,
@@ -128,7 +128,7 @@ pub(crate) fn look_over<R: Files + AllocGlobal + Eprint, W: Sink>(
     for name in &containers.names {
         let name = name.as_str();
         let seen = look_at_name(rt, name, containers);
-        if !tell(rt.alloc(), &mut look, name, seen, output)? {
+        if !print_shown(rt.alloc(), &mut look, name, seen, output)? {
             status = 1;
         }
     }
@@ -185,7 +185,7 @@ fn explain_container<R: Files + AllocGlobal + Eprint>(
 }
 
 // Prints what is to be said of a container. Returns whether all is well with it.
-fn tell<W: Sink>(
+fn print_shown<W: Sink>(
     alloc: Global,
     look: &mut Look<'_>,
     name: &str,

@@ -1,6 +1,6 @@
 //! The styles in which a command prints its lines, and the lines with which verified containers are compared.
 
-use crate::{FAULT, complain, explain};
+use crate::{FAULT, explain, print_complaint};
 use clap::ArgMatches;
 use command_line::{Naming, Printing, UsageFault, device_asked, naming_asked, printing_asked};
 use folder_core::quote;
@@ -58,7 +58,7 @@ pub(crate) fn asked_of<'a, R: AllocGlobal + Eprint>(
         _ => Command::Audit,
     };
     let Ok(device) = device_of(rt.alloc(), asked) else {
-        return Err(complain(rt, "usage", UsageFault::OutOfMemory));
+        return Err(print_complaint(rt, "usage", UsageFault::OutOfMemory));
     };
     let names = match naming_asked(asked) {
         Naming::Plain => Names::Plain,

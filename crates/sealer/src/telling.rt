@@ -3,7 +3,7 @@
 ghost use Rattle.std.specs.Prelude.{◌≡◌, ◌<◌, IfSome};
 
 use crate::files::NameList;
-use crate::{FAULT, complain};
+use crate::{FAULT, print_complaint};
 use clap::ArgMatches;
 use command_line::{
     BadPiece, Naming, PieceFault, Reading, UsageFault, bad_pieces, list_request, naming_asked,
@@ -25,7 +25,7 @@ pub(crate) struct Origin {
 /// Returns where the names of a run come from.
 pub(crate) fn origin_of(matches: &ArgMatches<'_>) -> Origin {
     let unit = match list_request(matches) {
-        Some(list) => unit_of(list.separator),
+        Some(list) => list_unit(list.separator),
         None => "line",
     };
     Origin {
@@ -35,7 +35,7 @@ pub(crate) fn origin_of(matches: &ArgMatches<'_>) -> Origin {
 }
 
 // What a name is in a list with this separator.
-fn unit_of(separator: char) -> &'static str {
+fn list_unit(separator: char) -> &'static str {
     if separator == '\n' { "line" } else { "name" }
 }
 
@@ -50,7 +50,7 @@ pub(crate) fn refuse_list<R: AllocGlobal + Eprint>(
     requires ascii { IfSome list.now (λ one. one.separator < 128) }
     ensures status { result ≡ FAULT }
 {
-    let status = complain(rt, "usage", fault);
+    let status = print_complaint(rt, "usage", fault);
     match (list, fault) {
         (Some(list), UsageFault::EmptyName) if causes => {
             explain_list(rt, list, PieceFault::Empty);
@@ -70,7 +70,7 @@ fn explain_list<R: AllocGlobal + Eprint>(rt: &R, list: &NameList, wanted: PieceF
     let Ok(bad) = bad_pieces(rt.alloc(), list.text.as_slice(), list.separator) else {
         return;
     };
-    let unit = unit_of(list.separator);
+    let unit = list_unit(list.separator);
     for piece in bad.as_slice() {
         if piece.fault == wanted {
             let number = piece.number;
@@ -87,7 +87,7 @@ pub(crate) fn tell_bad<R: AllocGlobal + Eprint>(rt: &R, list: &NameList)
     let Ok(bad) = bad_pieces(rt.alloc(), list.text.as_slice(), list.separator) else {
         return;
     };
-    let unit = unit_of(list.separator);
+    let unit = list_unit(list.separator);
     for piece in bad.as_slice() {
         tell_piece(rt, unit, piece);
     }
@@ -261,7 +261,7 @@ fn clashes_of<'n>(
     for at in 0..names.len() {
         let file = name_at(origin, names[at], at + 1);
         if !to.may_share || is_text(alloc, file.name)? {
-            take_in(alloc, to.target, file, &mut seen, &mut clashes)?;
+            place_file(alloc, to.target, file, &mut seen, &mut clashes)?;
         }
     }
     Ok(clashes)
@@ -283,7 +283,7 @@ fn is_text(alloc: Global, name: &str) -> Result<bool, AllocError> {
 }
 
 // Adds a FILE to those that were seen, by what names its output, or to those that clash.
-fn take_in<'n>(
+fn place_file<'n>(
     alloc: Global,
     to: Target<'_>,
     file: RunName<'n>,

@@ -7,7 +7,7 @@ ghost use Rattle.command_core.specs.Work.{AreTold};
 ghost use Rattle.sealer.specs.Status.{IsStatusOf};
 
 use crate::files::{clear, key_at, progress_of};
-use crate::{Streams, complain};
+use crate::{Streams, print_complaint};
 use clap::ArgMatches;
 use command_line::{UnpipeRequest, UsageFault, unpipe_request};
 use container_core::{Key, MAX_OPENED};
@@ -23,7 +23,7 @@ use system_files::{
 
 /// Opens one container and writes its plaintext to the output. A terminal is refused as output, unless it was asked
 /// for. Returns the status, with the streams.
-pub(crate) fn unpipe<
+pub(crate) fn unpipe_as_asked<
     R: Files + AllocGlobal + Clock + Env + Eprint + Threads + Sync,
     I: Read + Drop,
     O: Write + Drop,
@@ -36,18 +36,24 @@ pub(crate) fn unpipe<
 {
     let request = match unpipe_request(matches) {
         Ok(request) => request,
-        Err(fault) => return (complain(rt, "usage", fault), streams),
+        Err(fault) => return (print_complaint(rt, "usage", fault), streams),
     };
     if streams.terminals.output && !request.to_terminal {
-        return (complain(rt, "usage", UsageFault::Terminal), streams);
+        return (print_complaint(rt, "usage", UsageFault::Terminal), streams);
     }
     let Ok(spool) = spool_folder(rt, request.spool) else {
-        return (complain(rt, "usage", UsageFault::OutOfMemory), streams);
+        return (
+            print_complaint(rt, "usage", UsageFault::OutOfMemory),
+            streams,
+        );
     };
     let is_input = request.file == STREAM;
     let reopens_input = is_input && can_reopen_input(rt);
     if is_input && !reopens_input && !is_folder(rt, spool.as_str()) {
-        return (complain(rt, "usage", UsageFault::NoSpoolFolder), streams);
+        return (
+            print_complaint(rt, "usage", UsageFault::NoSpoolFolder),
+            streams,
+        );
     }
     let options = FileOptions {
         names: Names::Plain,

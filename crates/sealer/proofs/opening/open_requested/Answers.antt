@@ -2,7 +2,7 @@ use Rattle.std.proofs.Common.{map, option_map, rules, subst}
 use Rattle.sealer.specs.declared.OverFiles.TheVariants.{Read}
 use Rattle.sealer.specs.Status.{IsOfCommand, IsOfReading, IsStatusOf}
 use Rattle.sealer.proofs.Statuses.{all_kept, no_items, weaker, with_kept}
-use Rattle.sealer.proofs.opening.open_asked.Goals as goal
+use Rattle.sealer.proofs.opening.open_requested.Goals as goal
 
 pub returns-then-is_empty : goal.returns-then-is_empty
 returns-then-is_empty g c =

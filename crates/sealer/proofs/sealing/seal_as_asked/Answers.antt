@@ -3,7 +3,7 @@ use Rattle.sealer_core.specs.Sealing.{IsOfSealing}
 use Rattle.sealer.specs.declared.OverFiles.TheVariants.{Seal}
 use Rattle.sealer.specs.Status.{IsOfCommand, IsStatusOf}
 use Rattle.sealer.proofs.Statuses.{with_kept}
-use Rattle.sealer.proofs.sealing.seal.Goals as goal
+use Rattle.sealer.proofs.sealing.seal_as_asked.Goals as goal
 
 pub returns : goal.returns
 returns g c =
