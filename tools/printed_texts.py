@@ -256,7 +256,7 @@ def unlisted():
     for it in re.findall(PRINT, SOURCES):
         if " of {all} files, " not in it and '"\\r\\x1b[K' not in it:
             yield f"{' '.join(it.split())}: is it a text of a fault, or a line?"
-    subjects = set(re.findall(r'\b(?:complain|explain)\(\s*rt,\s*"(\w*)"', SOURCES))
+    subjects = set(re.findall(r'\b(?:print_complaint|explain)\(\s*rt,\s*"(\w*)"', SOURCES))
     for it in sorted(subjects ^ ({it for table in FAULTS.values() for it in table} - {"failed", "", "cause"})):
         yield f"a fault of '{it}': {'nobody knows its types' if it in subjects else 'it is printed nowhere'}"
     told = {tuple(it.split("::")) for several in LINES.values() for it in several}
