@@ -1,6 +1,6 @@
 -- Sealing a block in place: its chunks, from the last one to the first.
 use Rattle.std.proofs.Common.{◌≡◌, ℕ, zero, suc, ◌+◌, ◌-◌, ◌*◌, ◌/◌, ◌%◌, ◌<◌, ◌≤◌, Bool, true, false, List, ◌++◌, length, take, drop}
-use Rattle.std.proofs.Common.{refl, sym, ap, ◌∙◌, subst, arith, append_assoc, append-nil, length-append, length-drop, take-append-drop}
+use Rattle.std.proofs.Common.{sym, ap, ◌∙◌, subst, arith, append_assoc, append-nil, length-append, length-drop, take-append-drop}
 use Rattle.std.proofs.Math.Nat.{div-le_self, div-mul-le_self, lt-div-mul-add}
 use Rattle.std.proofs.Math.Seq.{paste, take-add}
 use Rattle.std.proofs.lemmas.Nat.{div-add-mod'}
@@ -100,17 +100,22 @@ is_moved old new from to n m same less room is =
       behind = ap (drop (to + n)) all ∙ drop_at (front ++ part) back (to + n) (omega arith);
     }
 
--- what follows what was sealed
-pub sealed_behind : (to n : ℕ) (front place place' rest : List ℕ) → length front ≡ to → drop (n + 16) place' ≡ drop (n + 16) place
-    → drop (to + n) (front ++ place) ≡ drop (to + n) rest
-    → drop (to + n + 16) (front ++ place') ≡ drop (to + n + 16) rest
-sealed_behind to n front place place' rest wide behind was =
-    let e : to + (n + 16) ≡ to + n + 16 = omega arith in
-    ap (λ (k : ℕ). drop k (front ++ place')) (sym e) ∙ sym (drop-drop (n + 16) to (front ++ place'))
-    ∙ ap (drop (n + 16)) (drop_at front place' to wide) ∙ behind
-    ∙ ap (drop (n + 16)) (sym (drop_at front place to wide)) ∙ drop-drop (n + 16) to (front ++ place)
-    ∙ ap (λ (k : ℕ). drop k (front ++ place)) e
-    ∙ behind_more (to + n) 16 (to + n + 16) (front ++ place) rest refl was
+-- a chunk in its place, the room for its tag, and what follows them
+pub sealed_here : (to n : ℕ) (front chunk room tail : List ℕ) → length front ≡ to → length chunk ≡ n → length room ≡ 16
+    → take (n + 16) (drop to (front ++ (chunk ++ (room ++ tail)))) ≡ chunk ++ room
+sealed_here to n front chunk room tail wide long tag =
+    let both = length-append chunk room in
+    ap (take (n + 16)) (drop_at front (chunk ++ (room ++ tail)) to wide ∙ sym (append_assoc chunk room tail))
+    ∙ take_at (chunk ++ room) tail (n + 16) (omega arith)
+
+pub left_behind : (to n : ℕ) (front chunk room tail : List ℕ) → length front ≡ to → length chunk ≡ n → length room ≡ 16
+    → drop (to + n + 16) (front ++ (chunk ++ (room ++ tail))) ≡ tail
+left_behind to n front chunk room tail wide long tag =
+    let both = length-append chunk room in
+    let all = length-append front (chunk ++ room) in
+    ap (λ (l : List ℕ). drop (to + n + 16) (front ++ l)) (sym (append_assoc chunk room tail))
+    ∙ ap (drop (to + n + 16)) (sym (append_assoc front (chunk ++ room) tail))
+    ∙ drop_at (front ++ (chunk ++ room)) tail (to + n + 16) (omega arith)
 
 -- ---- chunks
 

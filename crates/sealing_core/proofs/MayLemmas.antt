@@ -65,17 +65,6 @@ pub may_second : (bound bound' : Option Bound) (before after : Option (List ℕ)
 may_second bound bound' before after front bytes same grown may =
     admits_same bound bound' after bytes same (admits_rest bound before after front bytes may grown)
 
--- more was written, and the bound is unchanged
-pub may_more : (each : ℕ) (front key header : List ℕ) (told : Option (List ℕ)) (bound bound' : Option Bound) (before after : Option (List ℕ)) (number next : ℕ)
-    → bound' ≡ bound
-    → ((taken : Option (List ℕ)) → AreWritten each front key header told taken before number → AreWritten each front key header told taken after next)
-    → MayGoOn each front key header told bound before number → MayGoOn each front key header told bound' after next
-may_more each front key header told bound bound' before after number next same step may = record {
-  taken = may.taken;
-  sofar = step may.taken may.sofar;
-  all = λ plain. admits_same bound bound' may.taken (behind front key header plain) same (may.all plain);
-}
-
 -- `number` blocks were written after what the output held at first
 pub may_behind : (each : ℕ) (front key header : List ℕ) (told : Option (List ℕ)) (bound bound' : Option Bound) (taken now : Option (List ℕ)) (number : ℕ)
     → bound' ≡ bound → ((plain : List ℕ) → Admits bound taken (behind front key header plain))

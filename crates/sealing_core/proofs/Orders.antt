@@ -284,12 +284,12 @@ none_left (t ∷ ts) none = absurd (omega arith)
 
 -- the places are the same
 pub order_same : (each : ℕ) (key header : List ℕ) (told : Option (List ℕ)) (put : ℕ) (early early' : Early) (jobs pieces : Hand)
-    → early'.places ≡ early.places → early'.written ≡ early.written
+    → early'.places.items ≡ early.places.items → early'.written ≡ early.written
     → IsOrdered each key header told put early jobs pieces → IsOrdered each key header told put early' jobs pieces
 order_same each key header told put early early' jobs pieces e f was = record {
   put = was.put;
   silent = was.silent;
-  count = let n = was.count in let l = ap (λ v. length v.items) e in omega arith;
+  count = let n = was.count in let l = ap (λ (xs : List (Option Piece)). length xs) e in omega arith;
   kept = rw (e, f) was.kept;
   seen = rw (e, f) was.seen;
 }

@@ -32,20 +32,6 @@ pub(crate) fn room_bytes<N: Naming>(header: &Header, each: u32) -> usize
     each as usize * (header.chunk() + TAG)
 }
 
-// Seals the first `n` bytes in place, and puts the tag after them.
-fn seal_front(key: &Key, header: &Header, number: u32, last: bool, text: &mut [u8], n: usize)
-    requires text { n + 16 ≤ length text.old }
-    requires n { n ≤ size_in header.now }
-    ensures length { length text.new ≡ length text.old }
-    ensures sealed { take (n + 16) text.new ≡ sealed_chunk key.now header.now number last (take n text.old) }
-    ensures rest { drop (n + 16) text.new ≡ drop (n + 16) text.old }
-{
-    let (chunk, rest) = text.split_at_mut(n);
-    let tag = seal_chunk(key, header, number, last, chunk);
-    let (room, _) = rest.split_at_mut(TAG);
-    room.copy_from_slice(&tag);
-}
-
 // Moves the `n` bytes at `from` to `to`, which is not before it.
 fn move_up(text: &mut [u8], from: usize, to: usize, n: usize)
     requires places { from ≤ to }
@@ -61,7 +47,7 @@ fn move_up(text: &mut [u8], from: usize, to: usize, n: usize)
     text.copy_within(from..from + n, to);
 }
 
-// Moves the `n` bytes at `from` to `to`, which is not before it, and seals them there.
+// Moves the `n` bytes at `from` to `to`, which is not before it, seals them there, and puts the tag after them.
 fn seal_at(
     key: &Key,
     header: &Header,
@@ -83,7 +69,10 @@ fn seal_at(
 {
     move_up(text, from, to, n);
     let (_, place) = text.split_at_mut(to);
-    seal_front(key, header, number, last, place, n);
+    let (chunk, rest) = place.split_at_mut(n);
+    let tag = seal_chunk(key, header, number, last, chunk);
+    let (room, _) = rest.split_at_mut(TAG);
+    room.copy_from_slice(&tag);
 }
 
 // Returns how many chunks come before the last one of `filled` bytes.

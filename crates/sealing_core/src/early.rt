@@ -1,5 +1,5 @@
 //! The pieces that came early, each in its place until its turn.
-ghost use Rattle.std.specs.Prelude.{◌≡◌, ◌+◌, ◌^◌, ◌<◌, ◌≤◌, ◌++◌, [], ◌∷◌, Some, None, IfOk, IfSome, IfNone, length};
+ghost use Rattle.std.specs.Prelude.{◌≡◌, ◌+◌, ◌^◌, ◌<◌, ◌≤◌, ◌++◌, [], ◌∷◌, Some, None, IfOk, IfSome, IfNone, length, true};
 ghost use Rattle.std.specs.VecDeque.{deque_len, deque_capacity};
 ghost use Rattle.sealing_core.specs.Order.{placed};
 ghost use Rattle.container_core.specs.Chunks.{max_chunks};
@@ -34,6 +34,13 @@ impl Early {
         ensures { (result ≡ length self.now.places.items) × (result ≡ deque_len self.now.places) }
     {
         self.places.len()
+    }
+
+    // Whether all that was put is written.
+    pub(crate) fn is_empty(&self) -> bool
+        ensures { result ≡ true → length self.now.places.items ≡ 0 }
+    {
+        self.places.is_empty()
     }
 
     // Whether there is a place that may be written.

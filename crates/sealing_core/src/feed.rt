@@ -7,26 +7,23 @@ ghost use Rattle.crossbeam_queue.specs.Passes.{view, IsPassOf};
 ghost use Rattle.io_core.specs.Reads.{ConsumesUpTo};
 ghost use Rattle.io_core.specs.Streams.{counted};
 ghost use Rattle.output_core.specs.Bounds.{Admits};
-ghost use Rattle.sealing_core.specs.Hands.{hand};
-ghost use Rattle.sealing_core.specs.Order.{behind, below, AreKept, AreWritten, IsCutOff, IsOrdered};
-ghost use Rattle.sealing_core.specs.Order.{IsSeen, MayGoOn};
+ghost use Rattle.sealing_core.specs.Order.{behind, below, AreWritten, IsCutOff, IsSeen, MayGoOn};
 ghost use Rattle.sealing_core.specs.Pieces.{block, room, IsBlock};
 ghost use Rattle.sealing_core.specs.Round.{front_of, AreRounds, IsHanded, IsInHand, IsLast, IsPlan, IsRead};
 ghost use Rattle.sealing_core.specs.Round.{IsUnderWay, MayEnd};
 ghost use Rattle.sealing_core.specs.Rounds.{HasSealedRounds};
 ghost use Rattle.sealing_core.specs.declared.line.Hand.{Hand};
 ghost use Rattle.sealing_core.specs.declared.round.Plan.{Plan};
-ghost use Rattle.container_core.specs.Chunks.{max_chunks};
 
 use crate::block::{block_bytes, room_bytes};
 use crate::early::Early;
 use crate::handing::hand_over;
-use crate::line::{Hand, JobLine, Naming, PieceLine, take_piece, take_task};
+use crate::line::{Hand, JobLine, Naming, PieceLine, take_task};
 use crate::piece::{Piece, Task, make_piece};
 use crate::round::{Plan, Round};
 use crate::spare::{buffers, take_spare};
 use crate::worker::rest;
-use crate::writing::{write_next, write_part};
+use crate::writing::{write_or_take_back, write_part};
 use claim_core::Gate;
 use container_core::{Header, Key, SealFault};
 use crossbeam_queue::Pass;
@@ -36,128 +33,9 @@ use std::alloc::Global;
 use std::sync::Wait;
 use std::thread::Parker;
 
-// Takes a piece back, if there is one. Returns whether there was.
-fn take_back<N: Naming>(
-    pieces: &PieceLine<N>,
-    early: &mut Early,
-    from: &mut Pass<Piece, Hand>,
-) -> bool
-    requires from { IsPassOf pieces.now from.old × (0 < (view from.old).parts) }
-    ensures from { IsPassOf pieces.now from.new × ((view from.new).parts ≡ (view from.old).parts) }
-    ensures same { (early.new.written ≡ early.old.written)
-        × (deque_capacity early.new.places ≡ deque_capacity early.old.places)
-        × (length early.new.places.items ≡ length early.old.places.items) }
-    ensures order { (blocks : ℕ) (jobs : Hand)
-        → IsOrdered N.each N.key N.header N.told blocks early.old jobs (view from.old)
-        → IsOrdered N.each N.key N.header N.told blocks early.new jobs (view from.new) }
-{
-    match take_piece(pieces, from) {
-        None => false,
-        Some(piece) => {
-            early.place(piece);
-            true
-        }
-    }
-}
-
-// Writes a piece, or takes one back. Returns whether there was one.
-fn turn<N: Naming, W: Output>(
-    pieces: &PieceLine<N>,
-    early: &mut Early,
-    writer: &mut W,
-    front: &[u8],
-    spare: &mut Vec<Vec<u8>>,
-    size: usize,
-    from: &mut Pass<Piece, Hand>,
-) -> Result<bool, Failed>
-    requires from { IsPassOf pieces.now from.old × (0 < (view from.old).parts) }
-    requires few { early.old.written + length early.old.places.items ≤ max_chunks }
-    requires each { 0 < N.each }
-    requires size { size ≡ room N.each N.header }
-    requires kept { AreKept N.each N.key N.header N.told early.old.written early.old.places.items }
-    requires spare { All (λ b. length b.items ≡ size) spare.old.items }
-    requires may { MayGoOn N.each front.now N.key N.header N.told
-        (W.bound writer.old) (W.taken writer.old) early.old.written }
-    ensures from { IsPassOf pieces.now from.new × ((view from.new).parts ≡ (view from.old).parts) }
-    ensures spare { All (λ b. length b.items ≡ size) spare.new.items }
-    ensures room { deque_capacity early.new.places ≡ deque_capacity early.old.places }
-    ensures places { length early.new.places.items ≤ length early.old.places.items }
-    ensures order { (blocks : ℕ) (jobs : Hand)
-        → IsOrdered N.each N.key N.header N.told blocks early.old jobs (view from.old)
-        → OnOk result (IsOrdered N.each N.key N.header N.told blocks early.new jobs (view from.new)) }
-    ensures written { (taken : Option (List ℕ))
-        → AreWritten N.each front.now N.key N.header N.told taken (W.taken writer.old) early.old.written
-        → OnOk result (AreWritten N.each front.now N.key N.header N.told taken (W.taken writer.new) early.new.written) }
-    ensures begun { (taken : Option (List ℕ))
-        → AreWritten N.each front.now N.key N.header N.told taken (W.taken writer.old) early.old.written
-        → OnErr result (IsCutOff front.now N.key N.header N.told taken (W.taken writer.new)) }
-    ensures same { W.bound writer.new ≡ W.bound writer.old }
-    ensures count { W.failures writer.new ≡ counted (is_err result) (W.failures writer.old) }
-{
-    match write_next::<N, W>(early, writer, front, spare, size) {
-        Err(Failed) => Err(Failed),
-        Ok(true) => Ok(true),
-        Ok(false) => Ok(take_back(pieces, early, from)),
-    }
-}
-
-// Seals a job on this thread, if there is one. Returns whether there was.
-fn work_here<N: Naming, G: Gate>(
-    jobs: &JobLine<N>,
-    key: &Key,
-    header: &Header,
-    each: u32,
-    gate: &G,
-    early: &mut Early,
-    into: &mut Pass<Task, Hand>,
-) -> bool
-    requires named { (key.now ≡ N.key) × (header.now ≡ N.header) × (each ≡ N.each) }
-    requires each { IsBlock N.each N.header }
-    requires into { IsPassOf jobs.now into.old × (0 < (view into.old).parts) }
-    ensures into { IsPassOf jobs.now into.new × ((view into.new).parts ≡ (view into.old).parts) }
-    ensures same { (early.new.written ≡ early.old.written)
-        × (deque_capacity early.new.places ≡ deque_capacity early.old.places)
-        × (length early.new.places.items ≡ length early.old.places.items) }
-    ensures order { (blocks : ℕ) (pieces : Hand)
-        → IsOrdered N.each N.key N.header N.told blocks early.old (view into.old) pieces
-        → IsOrdered N.each N.key N.header N.told blocks early.new (view into.new) pieces }
-{
-    match take_task(jobs, into) {
-        Some(Task::Job { number, buffer }) => {
-            early.place(make_piece::<N, G>(key, header, gate, 0, each, number, buffer));
-            true
-        }
-        Some(Task::Stop) | None => false,
-    }
-}
-
-// Seals the last block, unless this worker is alone. Returns whether there was something to seal.
-fn seal_first<N: Naming, G: Gate>(
-    key: &Key,
-    header: &Header,
-    each: u32,
-    gate: &G,
-    bells: &[Parker],
-    round: &mut Round,
-) -> bool
-    requires named { (key.now ≡ N.key) × (header.now ≡ N.header) × (each ≡ N.each) }
-    requires each { IsBlock N.each N.header }
-    requires last { round.old.intake.ended ≡ true → MayEnd N.each N.header round.old }
-    ensures same { (round.new.intake ≡ round.old.intake) × (round.new.held ≡ round.old.held) }
-    ensures may { round.old.intake.ended ≡ true → MayEnd N.each N.header round.new }
-    ensures last { (number : ℕ) → round.old.intake.blocks ≡ number + 1
-        → IsLast N.each N.key N.header N.told number round.old → IsLast N.each N.key N.header N.told number round.new }
-    ensures going { round.old.intake.ended ≡ false → round.new ≡ round.old }
-{
-    if bells.len() > 1 {
-        return round.seal_last::<N, G>(key, header, each, gate);
-    }
-    false
-}
-
 // Seals a block on this thread, or rests if there is none. The last block comes first, since no other worker can seal
-// it, unless this worker is alone. Returns how often it has looked in vain since it last found one or slept.
-fn busy<N: Naming, T: Wait, G: Gate>(
+// it; if this worker is alone, `end` seals it. Returns how often it has looked in vain since it last found one or slept.
+fn seal_or_rest<N: Naming, T: Wait, G: Gate>(
     rt: &T,
     jobs: &JobLine<N>,
     key: &Key,
@@ -184,21 +62,21 @@ fn busy<N: Naming, T: Wait, G: Gate>(
         → IsUnderWay N.each N.key N.header N.told left plan early.old (view into.old) pieces round.old
         → IsUnderWay N.each N.key N.header N.told left plan early.new (view into.new) pieces round.new }
 {
-    if seal_first::<N, G>(key, header, each, gate, bells, round) {
+    if bells.len() > 1 && round.seal_last::<N, G>(key, header, each, gate) {
         return 0;
     }
-    if work_here(jobs, key, header, each, gate, early, into) {
-        return 0;
+    match take_task(jobs, into) {
+        Some(Task::Job { number, buffer }) => {
+            early.place(make_piece::<N, G>(key, header, gate, 0, each, number, buffer));
+            0
+        }
+        Some(Task::Stop) | None => rest(rt, &bells[0], looks),
     }
-    if round.seal_last::<N, G>(key, header, each, gate) {
-        return 0;
-    }
-    rest(rt, &bells[0], looks)
 }
 
-// Reads to the end of the input or to a byte too many, and meanwhile puts and writes what it may. Returns whether no
-// read failed.
-fn take_in<N: Naming, T: Wait, R: Source, W: Output, G: Gate>(
+// Reads to the end of the input or to a byte too many, puts each round that was read, and writes until all that was put
+// is written. Returns whether no read failed; a failed one ends it at once.
+fn run_rounds<N: Naming, T: Wait, R: Source, W: Output, G: Gate>(
     rt: &T,
     jobs: &JobLine<N>,
     pieces: &PieceLine<N>,
@@ -232,11 +110,11 @@ fn take_in<N: Naming, T: Wait, R: Source, W: Output, G: Gate>(
         → Admits (W.bound writer.old) (W.taken writer.old) (behind front.now N.key N.header plain) }
     ensures into { IsPassOf jobs.now into.new × ((view into.new).parts ≡ (view into.old).parts) }
     ensures from { IsPassOf pieces.now from.new × ((view from.new).parts ≡ (view from.old).parts) }
-    ensures spare { All (λ b. length b.items ≡ room N.each N.header) spare.new.items }
     ensures all { IfOk result (λ all. all ≡ true
         → IsUnderWay N.each N.key N.header N.told (R.left reader.new) plan
         early.new (view into.new) (view from.new) round.new
-        × IsHanded plan.group round.new × (round.new.intake.over ≡ false → round.new.intake.ended ≡ true)) }
+        × IsHanded plan.group round.new × (round.new.intake.over ≡ false → round.new.intake.ended ≡ true)
+        × (length early.new.places.items ≡ 0)) }
     ensures bound { ConsumesUpTo N.told (R.left reader.new) plan.limit }
     ensures written { OnOk result (AreWritten N.each front.now N.key N.header N.told
         (W.taken writer.old) (W.taken writer.new) early.new.written) }
@@ -251,7 +129,7 @@ fn take_in<N: Naming, T: Wait, R: Source, W: Output, G: Gate>(
     let room = room_bytes::<N>(header, plan.each);
     let mut looks = 0;
     for _ in rt.forever() {
-        match turn::<N, W>(pieces, early, writer, front, spare, room, from) {
+        match write_or_take_back::<N, W>(pieces, early, writer, front, spare, room, from) {
             Ok(true) => {
                 looks = 0;
                 continue;
@@ -259,88 +137,23 @@ fn take_in<N: Naming, T: Wait, R: Source, W: Output, G: Gate>(
             Ok(false) => {}
             Err(Failed) => return Err(Failed),
         }
-        if !round.is_open() {
+        if round.is_open() {
+            // Unless eager, it reads a round after writing those that may be. So no write follows a failed read.
+            let waits = !plan.eager && early.is_ripe();
+            let count = early.len() + round.held.len();
+            if let Some(buffer) = take_spare(spare, room, waits, count, plan.depth) {
+                match round.read::<N, R>(reader, size, plan.limit, buffer) {
+                    Err(Failed) => return Ok(false),
+                    Ok(()) => {}
+                }
+                hand_over(rt, jobs, plan, bells, round, early, into);
+                continue;
+            }
+        } else if early.is_empty() {
             return Ok(true);
         }
-        // Unless eager, it reads a round after writing those that may be. So no write follows a failed read.
-        let waits = !plan.eager && early.is_ripe();
-        let count = early.len() + round.held.len();
-        if let Some(buffer) = take_spare(spare, room, waits, count, plan.depth) {
-            match round.read::<N, R>(reader, size, plan.limit, buffer) {
-                Err(Failed) => return Ok(false),
-                Ok(()) => {}
-            }
-            hand_over(rt, jobs, plan, bells, round, early, into);
-            continue;
-        }
-        looks = busy(
+        looks = seal_or_rest(
             rt, jobs, key, header, plan.each, gate, bells, looks, round, early, into,
-        );
-    }
-    unreachable!()
-}
-
-// Writes all that was put.
-fn drain<N: Naming, T: Wait, W: Output, G: Gate>(
-    rt: &T,
-    jobs: &JobLine<N>,
-    pieces: &PieceLine<N>,
-    key: &Key,
-    header: &Header,
-    each: u32,
-    writer: &mut W,
-    front: &[u8],
-    gate: &G,
-    bells: &[Parker],
-    spare: &mut Vec<Vec<u8>>,
-    round: &mut Round,
-    early: &mut Early,
-    into: &mut Pass<Task, Hand>,
-    from: &mut Pass<Piece, Hand>,
-) -> Result<(), Failed>
-    requires named { (key.now ≡ N.key) × (header.now ≡ N.header) × (each ≡ N.each) }
-    requires each { IsBlock N.each N.header }
-    requires bells { 0 < length bells.now }
-    requires into { IsPassOf jobs.now into.old × (0 < (view into.old).parts) }
-    requires from { IsPassOf pieces.now from.old × (0 < (view from.old).parts) }
-    requires way { (left : Option (List ℕ)) × (plan : Plan)
-        × IsUnderWay N.each N.key N.header N.told left plan early.old (view into.old) (view from.old) round.old }
-    requires spare { All (λ b. length b.items ≡ room N.each N.header) spare.old.items }
-    requires may { MayGoOn N.each front.now N.key N.header N.told
-        (W.bound writer.old) (W.taken writer.old) early.old.written }
-    ensures into { IsPassOf jobs.now into.new × ((view into.new).parts ≡ (view into.old).parts) }
-    ensures from { IsPassOf pieces.now from.new × ((view from.new).parts ≡ (view from.old).parts) }
-    ensures same { (round.new.intake ≡ round.old.intake) × (round.new.held ≡ round.old.held) }
-    ensures all { OnOk result (length early.new.places.items ≡ 0) }
-    ensures way { (left : Option (List ℕ)) (plan : Plan)
-        → IsUnderWay N.each N.key N.header N.told left plan early.old (view into.old) (view from.old) round.old
-        → OnOk result (IsUnderWay N.each N.key N.header N.told left plan
-        early.new (view into.new) (view from.new) round.new) }
-    ensures written { (taken : Option (List ℕ))
-        → AreWritten N.each front.now N.key N.header N.told taken (W.taken writer.old) early.old.written
-        → OnOk result (AreWritten N.each front.now N.key N.header N.told taken (W.taken writer.new) early.new.written) }
-    ensures begun { (taken : Option (List ℕ))
-        → AreWritten N.each front.now N.key N.header N.told taken (W.taken writer.old) early.old.written
-        → OnErr result (IsCutOff front.now N.key N.header N.told taken (W.taken writer.new)) }
-    ensures bound { W.bound writer.new ≡ W.bound writer.old }
-    ensures count { W.failures writer.new ≡ counted (is_err result) (W.failures writer.old) }
-{
-    let room = room_bytes::<N>(header, each);
-    let mut looks = 0;
-    for _ in rt.forever() {
-        if early.len() == 0 {
-            return Ok(());
-        }
-        match turn::<N, W>(pieces, early, writer, front, spare, room, from) {
-            Ok(true) => {
-                looks = 0;
-                continue;
-            }
-            Ok(false) => {}
-            Err(Failed) => return Err(Failed),
-        }
-        looks = busy(
-            rt, jobs, key, header, each, gate, bells, looks, round, early, into,
         );
     }
     unreachable!()
@@ -430,7 +243,7 @@ pub(crate) fn feed<N: Naming, T: Wait, R: Source, W: Output, G: Gate>(
     };
     let front = plan.front(header);
     hand_over(rt, jobs, plan, bells, round, &mut early, into);
-    let all = match take_in(
+    let all = match run_rounds(
         rt, jobs, pieces, key, header, reader, writer, plan, front, gate, bells, &mut spare, round,
         &mut early, into, from,
     ) {
@@ -439,13 +252,6 @@ pub(crate) fn feed<N: Naming, T: Wait, R: Source, W: Output, G: Gate>(
     };
     if !all {
         return Err(SealFault::Read);
-    }
-    match drain(
-        rt, jobs, pieces, key, header, plan.each, writer, front, gate, bells, &mut spare, round,
-        &mut early, into, from,
-    ) {
-        Ok(()) => {}
-        Err(Failed) => return Err(SealFault::Write),
     }
     end::<N, W, G>(key, header, plan.each, writer, front, round, gate)
 }

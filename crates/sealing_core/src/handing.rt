@@ -61,41 +61,8 @@ fn put_jobs<N: Naming, T: Wait>(
     }
 }
 
-// Puts the round in hand, if it is full or the last. Then what was put before may be written.
-fn put_round<N: Naming, T: Wait>(
-    rt: &T,
-    jobs: &JobLine<N>,
-    plan: Plan,
-    bells: &[Parker],
-    round: &mut Round,
-    early: &mut Early,
-    into: &mut Pass<Task, Hand>,
-)
-    requires group { 0 < plan.group }
-    requires jobs { (put : ℕ) × AreJobs N.each N.header N.told put round.old.held.items }
-    requires room { length early.old.places.items + length round.old.held.items ≤ deque_capacity early.old.places }
-    requires into { IsPassOf jobs.now into.old × (0 < (view into.old).parts) }
-    ensures into { IsPassOf jobs.now into.new × ((view into.new).parts ≡ (view into.old).parts) }
-    ensures same { (early.new.written ≡ early.old.written) × (round.new.intake ≡ round.old.intake)
-        × (deque_capacity early.new.places ≡ deque_capacity early.old.places)
-        × (deque_capacity round.new.held ≡ deque_capacity round.old.held) }
-    ensures room { length early.new.places.items + length round.new.held.items
-        ≡ length early.old.places.items + length round.old.held.items }
-    ensures handed { length round.old.held.items ≤ plan.group → IsHanded plan.group round.new }
-    ensures way { (left : Option (List ℕ)) (pieces : Hand) → length round.old.held.items ≤ plan.group
-        → (round.old.intake.over ≡ true → length round.old.held.items < plan.group)
-        → IsUnderWay N.each N.key N.header N.told left plan early.old (view into.old) pieces round.old
-        → IsUnderWay N.each N.key N.header N.told left plan early.new (view into.new) pieces round.new }
-{
-    if !round.is_full(plan.group) {
-        return;
-    }
-    early.ripen(true);
-    put_jobs(rt, jobs, &mut round.held, early, into);
-    ring(bells);
-}
-
-/// The same. At the end, or if the plan is eager, all may be written.
+/// Puts the round in hand, if it is full or the last. Then what was put before may be written; at the end, or if the
+/// plan is eager, all may.
 pub(crate) fn hand_over<N: Naming, T: Wait>(
     rt: &T,
     jobs: &JobLine<N>,
@@ -121,6 +88,10 @@ pub(crate) fn hand_over<N: Naming, T: Wait>(
         → IsUnderWay N.each N.key N.header N.told left plan early.old (view into.old) pieces round.old
         → IsUnderWay N.each N.key N.header N.told left plan early.new (view into.new) pieces round.new }
 {
-    put_round(rt, jobs, plan, bells, round, early, into);
+    if round.is_full(plan.group) {
+        early.ripen(true);
+        put_jobs(rt, jobs, &mut round.held, early, into);
+        ring(bells);
+    }
     early.ripen(plan.eager || !round.is_open());
 }

@@ -1,6 +1,6 @@
 //! Reads the input block by block, each with one byte after it, which shows whether the block is the last. At most
 //! `limit` bytes are read; if that many were, the input is too long.
-ghost use Rattle.std.specs.Prelude.{◌≡◌, ◌+◌, ◌-◌, ◌*◌, ◌^◌, ◌<◌, ◌≤◌, ◌++◌, ◌∷◌, List, ℕ, Option, None, true, false};
+ghost use Rattle.std.specs.Prelude.{◌≡◌, ◌+◌, ◌-◌, ◌*◌, ◌^◌, ◌<◌, ◌≤◌, ◌++◌, List, ℕ, Option, None, true, false};
 ghost use Rattle.std.specs.Prelude.{length, take};
 ghost use Rattle.std.specs.Prelude.{IfOk, OnOk, OnErr, Some, is_err, slice_index};
 ghost use Rattle.io_core.specs.Reads.{ConsumesUpTo};
@@ -22,24 +22,6 @@ pub(crate) struct Intake {
     pub(crate) over: bool,
 }
 
-// Puts this byte first and reads after it until the buffer is full or the input ends. Returns how many bytes the buffer
-// has, with this one.
-fn fill_after<R: Source>(reader: &mut R, byte: u8, buffer: &mut [u8]) -> Result<usize, Failed>
-    requires { 0 < length buffer.old }
-    ensures within { IfOk result (λ n. (0 < n) × (n ≤ length buffer.new)) }
-    ensures length { length buffer.new ≡ length buffer.old }
-    ensures read { IfOk result (λ n. (read : List ℕ) × Consumes (R.left reader.old) (R.left reader.new) read
-        × (take n buffer.new ≡ byte ∷ read)) }
-    ensures end { IfOk result (λ n. n < length buffer.new → IsAtEnd (R.left reader.new)) }
-    ensures lost { OnErr result (ConsumesUpTo (R.left reader.old) (R.left reader.new) (length buffer.new - 1)) }
-    ensures count { R.failures reader.new ≡ counted (is_err result) (R.failures reader.old) }
-{
-    let (first, rest) = buffer.split_at_mut(1);
-    first[0] = byte;
-    let n = fill(reader, rest)?;
-    Ok(n + 1)
-}
-
 // Fills a buffer after the byte that was seen, or until the input ends. Returns how many bytes it has, with that one.
 fn fill_behind<R: Source>(
     reader: &mut R,
@@ -58,7 +40,12 @@ fn fill_behind<R: Source>(
 {
     match ahead {
         None => fill(reader, buffer),
-        Some(byte) => fill_after(reader, byte, buffer),
+        Some(byte) => {
+            let (first, rest) = buffer.split_at_mut(1);
+            first[0] = byte;
+            let n = fill(reader, rest)?;
+            Ok(n + 1)
+        }
     }
 }
 

@@ -72,50 +72,8 @@ fn meet<N: Naming>(
     pieces.absorb::<Cut>(from, back);
 }
 
-// Runs the caller's thread, and then puts a stop for each other worker. `bells` has one bell for each worker.
-fn lead<N: Naming, T: Wait, R: Source, W: Output, G: Gate>(
-    rt: &T,
-    alloc: Global,
-    jobs: &JobLine<N>,
-    pieces: &PieceLine<N>,
-    key: &Key,
-    header: &Header,
-    reader: &mut R,
-    writer: &mut W,
-    plan: Plan,
-    round: &mut Round,
-    gate: &G,
-    bells: &[Parker],
-    into: &mut Pass<Task, Hand>,
-    from: &mut Pass<Piece, Hand>,
-) -> Result<u64, SealFault>
-    requires named { (key.now ≡ N.key) × (header.now ≡ N.header) }
-    requires plan { IsPlan N.each N.header plan }
-    requires read { IsRead N.each N.key N.header N.told (R.left reader.old) plan round.old }
-    requires bells { 0 < length bells.now }
-    requires into { IsPassOf jobs.now into.old × (0 < (view into.old).parts) × ((view into.old).put ≡ []) }
-    requires from { IsPassOf pieces.now from.old × (0 < (view from.old).parts) × ((view from.old).put ≡ []) }
-    requires may { (plain : List ℕ)
-        → Admits (W.bound writer.old) (W.taken writer.old) (behind (front_of N.header plan) N.key N.header plain) }
-    ensures into { IsPassOf jobs.now into.new × ((view into.new).parts ≡ (view into.old).parts) }
-    ensures from { IsPassOf pieces.now from.new × ((view from.new).parts ≡ (view from.old).parts) }
-    ensures sealed { HasSealedRounds (front_of N.header plan) N.key N.header (plan.limit - 1) (plan.group * N.each)
-        N.told (R.left reader.new) (R.failures reader.old) (R.failures reader.new)
-        (W.taken writer.old) (W.taken writer.new) (W.failures writer.old) (W.failures writer.new) result }
-    ensures all { OnOk result ((n : ℕ) × HasAll n (view into.new) (view from.new)) }
-{
-    let answer = feed(
-        rt, alloc, jobs, pieces, key, header, reader, writer, plan, round, gate, bells, into, from,
-    );
-    if answer.is_err() {
-        drop_jobs(jobs, into, plan.depth);
-    }
-    stop_all(rt, jobs, into, bells.len() - 1);
-    ring(bells);
-    answer
-}
-
-// Runs `upto` workers. The caller's thread is the first of them.
+// Runs `upto` workers, of which the caller's thread is the first. The innermost call feeds them, and then puts a stop
+// for each other one. `bells` has one bell for each worker.
 #[cycle(crew)]
 fn crew<N: Naming + Send + Sync, T: Threads + Wait + Sync, R: Source, W: Output, G: Gate + Sync>(
     rt: &T,
@@ -150,10 +108,16 @@ fn crew<N: Naming + Send + Sync, T: Threads + Wait + Sync, R: Source, W: Output,
     ensures all { OnOk result ((n : ℕ) × HasAll n (view into.new) (view from.new)) }
 {
     if upto == 1 {
-        return lead(
+        let answer = feed(
             rt, alloc, jobs, pieces, key, header, reader, writer, plan, round, gate, bells, into,
             from,
         );
+        if answer.is_err() {
+            drop_jobs(jobs, into, plan.depth);
+        }
+        stop_all(rt, jobs, into, bells.len() - 1);
+        ring(bells);
+        return answer;
     }
     let last = upto - 1;
     let each = plan.each;

@@ -4,7 +4,7 @@ use Rattle.crossbeam_queue.specs.Passes.{view, IsPassOf}
 use Rattle.sealing_core.specs.Order.{AreWritten}
 use Rattle.sealing_core.specs.Pieces.{room}
 use Rattle.sealing_core.specs.Round.{IsHanded, IsUnderWay}
-use Rattle.sealing_core.proofs.feed.take_in.Given as goal
+use Rattle.sealing_core.proofs.feed.run_rounds.Given as goal
 
 abbrev pub invariant-loop : goal.invariant-loop
 invariant-loop g l = record {
