@@ -21,7 +21,7 @@ pub enum PieceFault {
 }
 
 /// A piece of a list that is no name.
-#[derive(Clone, Copy, Debug)]
+#[derive(Clone, Copy)]
 pub struct BadPiece<'a> {
     /// Its number among all pieces of the list, counted from 1.
     pub number: usize,

@@ -15,7 +15,7 @@ use folder_core::quote;
 use std::alloc::Global;
 
 /// The list of names that is asked for.
-#[derive(Clone, Copy, Debug)]
+#[derive(Clone, Copy)]
 pub struct ListRequest<'a> {
     /// Its path, or `-` for standard input.
     pub path: &'a str,
@@ -107,7 +107,7 @@ pub fn names_in(alloc: Global, text: &str, separator: char) -> Result<Vec<&str>,
 }
 
 /// How a run takes its names.
-#[derive(Clone, Copy, PartialEq, Eq, Debug)]
+#[derive(Clone, Copy, PartialEq, Eq)]
 pub enum Naming {
     /// As they are given.
     Plain,

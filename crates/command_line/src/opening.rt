@@ -13,7 +13,7 @@ use clap::ArgMatches;
 use container_core::{MAX_LABEL, MAX_OPENED};
 
 /// What becomes of the plaintext of containers.
-#[derive(Clone, Copy, PartialEq, Eq, Debug)]
+#[derive(Clone, Copy, PartialEq, Eq)]
 pub enum Reading {
     /// It is written, by `open`.
     Open,

@@ -7,7 +7,7 @@ use crate::fault::UsageFault;
 use clap::ArgMatches;
 
 /// When a run shows its progress on standard error.
-#[derive(Clone, Copy, PartialEq, Eq, Debug)]
+#[derive(Clone, Copy)]
 pub enum Showing {
     /// It doesn't.
     Never,
@@ -57,7 +57,7 @@ pub fn against_asked(matches: &ArgMatches<'_>) -> Result<bool, UsageFault>
 }
 
 /// How a command prints its lines.
-#[derive(Clone, Copy, PartialEq, Eq, Debug)]
+#[derive(Clone, Copy)]
 pub struct Printing<'a> {
     /// Whether each line is a JSON object, and the last one has the totals.
     pub json: bool,

@@ -19,7 +19,7 @@ pub trait Spool: FileReader {
 }
 
 /// Where a spooled input is read.
-#[derive(Clone, Copy, PartialEq, Eq, Debug)]
+#[derive(Clone, Copy)]
 pub enum Stage {
     /// From the input, and what is read is kept.
     First,

@@ -15,7 +15,7 @@ use std::collections::BTreeMap;
 use std::str::from_utf8;
 
 /// What a comparison found.
-#[derive(Clone, Copy, PartialEq, Eq, Debug)]
+#[derive(Clone, Copy, PartialEq, Eq)]
 pub enum What {
     /// A listed output is not among the containers.
     Missing,

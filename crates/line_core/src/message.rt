@@ -15,7 +15,7 @@ ghost use Rattle.std.specs.Prelude.{◌≡◌, ◌++◌, ◌∷◌, [], IfSome, 
 ghost use Rattle.line_core.specs.Messages.{AreDigits, bytes_text, facts_text, label_text, message_text};
 
 /// What the second line of a good container says: digits, and the label between its quotes.
-#[derive(Clone, Copy, PartialEq, Eq, Debug)]
+#[derive(Clone, Copy)]
 pub struct Facts<'a> {
     pub version: &'a str,
     pub chunk: &'a str,
@@ -25,7 +25,7 @@ pub struct Facts<'a> {
 }
 
 /// The parts of a line. Numbers are digits.
-#[derive(Clone, Copy, PartialEq, Eq, Debug)]
+#[derive(Clone, Copy)]
 pub enum Message<'a> {
     Sealed {
         name: &'a str,
@@ -146,6 +146,17 @@ fn digits_after<'a>(text: &'a str, word: &str) -> Option<(&'a str, &'a str)>
 {
     match cut_last(text, word) {
         Some((front, digits)) if are_digits(digits) => Some((front, digits)),
+        _ => None,
+    }
+}
+
+// The digits before the first place of a word, from the text's beginning, and the text after it.
+fn digits_before<'a>(text: &'a str, word: &str) -> Option<(&'a str, &'a str)>
+    ensures cut { IfSome result (λ cut. text.now ≡ cut.0.now ++ word.now ++ cut.1.now) }
+    ensures digits { IfSome result (λ cut. AreDigits cut.0.now) }
+{
+    match cut_first(text, word) {
+        Some((digits, rest)) if are_digits(digits) => Some((digits, rest)),
         _ => None,
     }
 }
@@ -281,17 +292,17 @@ fn held_of(rest: &str) -> Option<Message<'_>>
 fn legal_of(rest: &str) -> Option<Message<'_>>
     ensures { IfSome result (λ message. message_text message ≡ codes "legal: " ++ rest.now) }
 {
-    let (granted, rest) = cut_first(rest, " granted, ")?;
-    let (sealed, rest) = cut_first(rest, " sealed, ")?;
-    let (void, rest) = cut_first(rest, " void, ")?;
-    let (open, rest) = cut_first(rest, " open, ")?;
-    match cut_first(rest, " refused") {
+    let (granted, rest) = digits_before(rest, " granted, ")?;
+    let (sealed, rest) = digits_before(rest, " sealed, ")?;
+    let (void, rest) = digits_before(rest, " void, ")?;
+    let (open, rest) = digits_before(rest, " open, ")?;
+    match digits_before(rest, " refused") {
         Some((refused, "")) => Some(Message::Legal {
-            granted: digits_in(granted)?,
-            sealed: digits_in(sealed)?,
-            void: digits_in(void)?,
-            open: digits_in(open)?,
-            refused: digits_in(refused)?,
+            granted,
+            sealed,
+            void,
+            open,
+            refused,
         }),
         _ => None,
     }

@@ -11,7 +11,7 @@ use crate::objects::push_head;
 use std::alloc::{AllocError, Global};
 
 /// The command whose lines are counted.
-#[derive(Clone, Copy, PartialEq, Eq, Debug)]
+#[derive(Clone, Copy)]
 pub enum Command {
     Seal,
     Pipe,

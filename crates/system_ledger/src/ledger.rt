@@ -89,7 +89,7 @@ impl From<Error> for LedgerFault {
 }
 
 /// Which ledger file a run asks for.
-#[derive(Clone, Copy, Debug)]
+#[derive(Clone, Copy)]
 pub struct LedgerPath<'a> {
     /// Its path. If it is a link, the log is beside the link's target.
     pub path: &'a str,

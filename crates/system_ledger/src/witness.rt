@@ -46,7 +46,7 @@ pub enum WitnessFault {
 }
 
 /// Why a run may not begin by its witness.
-#[derive(Clone, Copy, PartialEq, Eq, Debug)]
+#[derive(Clone, Copy)]
 pub enum WitnessRefusal {
     /// The witness can't be used.
     Witness(WitnessFault),
@@ -55,7 +55,7 @@ pub enum WitnessRefusal {
 }
 
 /// What tells a file from others that get its path.
-#[derive(Clone, Copy, PartialEq, Eq, Debug)]
+#[derive(Clone, Copy, PartialEq, Eq)]
 pub struct FileMark {
     /// The number of its device.
     pub device: u64,
@@ -82,7 +82,7 @@ impl FileMark {
 }
 
 /// What a witness says, for one key and device.
-#[derive(Clone, Copy, PartialEq, Eq, Debug)]
+#[derive(Clone, Copy)]
 pub struct Seen {
     /// The mark of the ledger file.
     pub file: FileMark,

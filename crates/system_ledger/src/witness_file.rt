@@ -23,7 +23,7 @@ const SHARED: u32 = 0o666;
 const MAX_NAMES: u32 = 100;
 
 /// Which witness a run asks for.
-#[derive(Clone, Copy, Debug)]
+#[derive(Clone, Copy)]
 pub struct WitnessPath<'a> {
     /// Its path, if there is to be one.
     pub path: Option<&'a str>,
