@@ -28,7 +28,7 @@ started key_id range = record { key_id = key_id; range = range; begun = [] }
 abbrev pub times_begun : ℕ → List Begun → ℕ
 times_begun number begun = count_by (λ b. nat_eq number b.number) begun
 
--- none did
+-- no container began under this number
 abbrev pub IsFree : ℕ → Session → Type 0
 IsFree number session = times_begun number session.begun ≡ 0
 
@@ -55,11 +55,11 @@ abbrev pub IsBoundChecked : List ℕ → List ℕ → Option (List ℕ) → Opti
 IsBoundChecked key header left taken bound =
     (input : List ℕ) × (left ≡ Some input) × IsBoundTo (λ held. Checked held key header input) taken bound
 
--- Nothing can be written to it yet: it may hold no more than it took.
+-- Nothing can be written to it yet: if its bound is known, it may hold no more than it took.
 abbrev pub IsShut : Option Bound → Option (List ℕ) → Type 0
 IsShut bound taken = IfSome bound (IsBoundTo (λ held. Exactly held) taken)
 
--- Nothing can be written to it yet, and it is the output of a folder, which has its name and no byte.
+-- The same of a folder's output: if its bound is known, it may hold its name and no byte.
 abbrev pub IsNew : Option Bound → Option (List ℕ) → Type 0
 IsNew bound taken =
     IfSome bound (λ b. (name : List ℕ) × (taken ≡ Some (tape name [])) × (b ≡ Exactly (tape name [])))

@@ -1,4 +1,4 @@
-//! Streams into which one container is written, under the same conditions.
+//! Streams into which one container is written, under a number that a seat of the ledger holds.
 ghost use Rattle.std.specs.Prelude.{◌≡◌, IfSome};
 ghost use Rattle.command_core.specs.Session.{IsBoundTo, IsShut};
 ghost use Rattle.command_core.specs.GrantedRange.{IsHeld, StandsIn};

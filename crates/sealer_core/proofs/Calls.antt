@@ -1,5 +1,5 @@
 -- A call over files is a run of the theorem, whether it ended or was killed.
-use Rattle.std.proofs.Common.{◌≡◌, ℕ, List, refl, subst, sym}
+use Rattle.std.proofs.Common.{◌≡◌, ℕ, List, refl, subst}
 use Rattle.sha2.specs.Sha256.{sha256}
 use Rattle.journal_core.specs.Range.{Numbers}
 use Rattle.sqlite_wal.specs.Recovery.{Image}

@@ -16,13 +16,9 @@ use Rattle.reserve_core.proofs.NextRun.{passed}
 use Rattle.sealer_core.specs.Outputs.{AreRuns, HasWritten, IsInside, IsOutput, Output, Place, StandsAt, Written}
 use Rattle.sealer_core.specs.Theorem.{AreInTurn, AreRunsOf, BeginsContainer, Follows, HasChunk, HeldAt, IsRun, Run}
 use Rattle.sealer_core.proofs.Lives.{nonce_at, header_prefix}
+use Rattle.sealer_core.proofs.OutputLaws.{all_at}
 
 -- ---- lists
-
-all_at : {A : Type 0} (P : A → Type 0) (xs : List A) (i : ℕ) (x : A) → AllByRecursion P xs → slice_get xs i ≡ Some x → P x
-all_at P [] i x all at = absurd (cc)
-all_at P (y ∷ xs) zero x all at = let same : y ≡ x = cc in subst P same all.0
-all_at P (y ∷ xs) (suc i) x all at = all_at P xs i x all.1 at
 
 -- what is at a place of a list of values of a function
 mapped : {A B : Type 0} (f : A → B) (xs : List A) (i : ℕ) (x : A) → slice_get xs i ≡ Some x → slice_get (map f xs) i ≡ Some (f x)

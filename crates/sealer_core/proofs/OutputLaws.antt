@@ -167,7 +167,7 @@ are_apart terms history outputs (legal, granted) = (
 
 -- ---- an output and its number
 
-all_at : {A : Type 0} (P : A → Type 0) (xs : List A) (i : ℕ) (x : A) → AllByRecursion P xs → slice_get xs i ≡ Some x → P x
+pub all_at : {A : Type 0} (P : A → Type 0) (xs : List A) (i : ℕ) (x : A) → AllByRecursion P xs → slice_get xs i ≡ Some x → P x
 all_at P [] i x all at = absurd (cc)
 all_at P (y ∷ xs) zero x all at = let same : y ≡ x = cc in subst P same all.0
 all_at P (y ∷ xs) (suc i) x all at = all_at P xs i x all.1 at

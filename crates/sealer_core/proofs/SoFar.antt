@@ -12,7 +12,7 @@ use Rattle.command_core.specs.GrantedRange.{IsHeld}
 use Rattle.io_core.specs.Streams.{IsFront}
 use Rattle.journal_core.specs.declared.terms.Terms.{Terms}
 use Rattle.journal_core.specs.History.{grants, times_granted}
-use Rattle.journal_core.specs.Range.{IsLawfulRange, Numbers, prefix_of}
+use Rattle.journal_core.specs.Range.{IsLawfulRange, Numbers}
 use Rattle.ledger_core.specs.Shared.{LedgerView, SeatView}
 use Rattle.output_core.specs.Bounds.{Bound, Container, IsWithin}
 use Rattle.sealer_core.specs.Outputs.{HasWritten, IsInside, IsOutput, Output, times_used}

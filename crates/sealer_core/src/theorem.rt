@@ -1,6 +1,6 @@
 //! The theorems over runs: under one key no nonce is used twice, and what was opened was sealed. Their definitions are
 //! in `specs/Theorem.antt` and `specs/Outputs.antt`, and for the second in `specs/Restored.antt`.
-ghost use Rattle.std.specs.Prelude.{◌≡◌, ◌<◌, ◌≤◌, ℕ, ◌+◌, ◌*◌, ◌^◌, List, [], ◌∷◌, ◌++◌, length, map, Option, Some};
+ghost use Rattle.std.specs.Prelude.{◌≡◌, ◌<◌, ◌≤◌, ℕ, ◌+◌, ◌*◌, ◌^◌, List, [], ◌∷◌, ◌++◌, length, Option, Some};
 ghost use Rattle.std.specs.Prelude.{Ok};
 ghost use Rattle.sha2.specs.Sha256.{sha256};
 ghost use Rattle.container_core.specs.Chunks.{tag_size};

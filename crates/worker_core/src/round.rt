@@ -2,7 +2,6 @@
 //!
 //! The nonce of a chunk encodes its number and whether it is the last of all. The last chunk of a round is the last of
 //! all if the round's flag says so; no other chunk of a round is. Nothing here allocates memory.
-//! the round's flag says so, and no other chunk of a round is. Nothing here takes memory.
 ghost use Rattle.std.specs.Prelude.{◌≡◌, ◌+◌, ◌^◌, ◌==◌, ◌&&◌, ◌<◌, ◌≤◌, [], length, slice_index_or, None, Some};
 ghost use Rattle.std.specs.Prelude.{vec_capacity};
 ghost use Rattle.std.specs.Bool.{OnTrue, OnFalse};
