@@ -3,8 +3,9 @@
 
 FOLDER: an empty folder, best in memory-backed storage, with 6 times MIB free. There are MIB (512) MiB of files for each SIZE, in KiB (64,
 1024, 4096, 16384), and 10,000 files of 4 KiB. Everything is timed in turn, ROUNDS (3) times over, and the least counts: wall seconds, and the
-page faults of that run in thousands. Then it prints each as a part of the time of one worker, and what reading and writing these files in turn
-takes alone, in one thread: what a group's lanes can't share. PROGRAM is crates/sealer/out/sealer by default.
+page faults of that run in thousands. Then it prints each as a part of the time of one worker, with its floor: what is left of that time where
+only the seconds outside the kernel, sealing or opening, are shared, and what a thread costs is not counted. And it prints what reading and
+writing these files in turn takes alone, in one thread. PROGRAM is crates/sealer/out/sealer by default.
 """
 import argparse
 import os
@@ -45,15 +46,16 @@ def made(size, count):
 
 
 def timed(words, before):
-    """The wall seconds of a command and its page faults in thousands."""
+    """The wall seconds of a command, its page faults in thousands, and its processor seconds outside the kernel."""
     before()
     with open("errors", "wb") as errors:
-        faults, start = resource.getrusage(resource.RUSAGE_CHILDREN).ru_minflt, time.monotonic()
+        first, start = resource.getrusage(resource.RUSAGE_CHILDREN), time.monotonic()
         status = subprocess.run(words, stdin=subprocess.DEVNULL, stdout=subprocess.DEVNULL, stderr=errors, check=False).returncode
         took = time.monotonic() - start
     if status:
         sys.exit(f"{' '.join(map(str, words))}: status {status}: {Path('errors').read_text(encoding='utf-8')[:200]}")
-    return took, (resource.getrusage(resource.RUSAGE_CHILDREN).ru_minflt - faults) / 1000
+    last = resource.getrusage(resource.RUSAGE_CHILDREN)
+    return took, (last.ru_minflt - first.ru_minflt) / 1000, last.ru_utime - first.ru_utime
 
 
 def unsealed(folder):
@@ -96,10 +98,11 @@ def measured(size, count):
     best = {}
     for _ in range(asked.rounds):
         for name, (words, before) in works.items():
-            best[name] = min(best.get(name, (1e9, 0)), timed(words, before))
+            best[name] = min(best.get(name, (1e9, 0, 0)), timed(words, before))
     for name in works:
-        one = best.get(f"{name.split()[0]} --workers 1", best["cp -r"])[0]
-        print(f"{count:6} of {size:6} KiB  {name:20} {best[name][0]:7.3f} s  {best[name][0] / one:5.2f} of one worker  {best[name][1]:7.1f} k faults", flush=True)
+        one, _, shared = best.get(f"{name.split()[0]} --workers 1", best["cp -r"])
+        floor = 1 - shared * (1 - 1 / int(name.split()[-1])) / one if name.startswith(("seal", "verify", "open")) else 1
+        print(f"{count:6} of {size:6} KiB  {name:20} {best[name][0]:7.3f} s  {best[name][0] / one:5.2f} of one worker, floor {floor:4.2f}  {best[name][1]:7.1f} k faults", flush=True)
     parts = [min(it) for it in zip(*(read_and_written(folder) for _ in range(asked.rounds)))]
     print(f"{count:6} of {size:6} KiB  read in turn {parts[0]:.3f} s, written in turn {parts[1]:.3f} s")
     copies()
