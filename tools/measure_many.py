@@ -3,9 +3,9 @@
 
 FOLDER: an empty folder, best in memory-backed storage, with 6 times MIB free. There are MIB (512) MiB of files for each SIZE, in KiB (64,
 1024, 4096, 16384), and 10,000 files of 4 KiB. Everything is timed in turn, ROUNDS (3) times over, and the least counts: wall seconds, and the
-page faults of that run in thousands. Then it prints each as a part of the time of one worker, with its floor: what is left of that time where
-only the seconds outside the kernel, sealing or opening, are shared, and what a thread costs is not counted. And it prints what reading and
-writing these files in turn takes alone, in one thread. PROGRAM is crates/sealer/out/sealer by default.
+page faults of that run in thousands. Then it prints each as a part of the time of one worker, with its floor: what one thread takes that only
+reads these files and writes as many in turn, as the first one does, and the seconds that one worker spent outside the kernel, shared. Threads
+cost nothing there. PROGRAM is crates/sealer/out/sealer by default.
 """
 import argparse
 import os
@@ -63,23 +63,44 @@ def unsealed(folder):
         file.unlink()
 
 
-def read_and_written(folder):
-    """The wall seconds that reading all files takes in one thread, and that writing as many bytes to new files does."""
+def read_and_written(folder, at_once):
+    """The wall seconds in which one thread reads all files in turn, and in which it makes, writes and names as many: as the program does it, in
+    groups of AT_ONCE files that are in memory together, or, if that is 1, in pieces of one room."""
     shutil.rmtree("copies", ignore_errors=True)
     os.mkdir("copies")
-    room, took = bytearray(PIECE), [0.0, 0.0]
-    for file in sorted(folder.glob("f?????")):
+    files = sorted(folder.glob("f?????"))
+    size = files[0].stat().st_size
+    rooms, took = [bytearray(size + 1 if at_once > 1 else PIECE) for _ in range(at_once)], [0.0, 0.0]
+    for room in rooms:
+        room[:] = b"1" * len(room)
+    for first in range(0, len(files), at_once):
+        group = list(zip(files[first:first + at_once], rooms))
         start = time.monotonic()
-        with open(file, "rb", buffering=0) as source:
-            pieces = []
-            while count := source.readinto(room):
-                pieces.append(count)
+        for file, room in group:
+            with open(file, "rb", buffering=0) as source:
+                while source.readinto(room):
+                    pass
         middle = time.monotonic()
-        with open(f"copies/{file.name}", "xb", buffering=0) as target:
-            for count in pieces:
-                target.write(memoryview(room)[:count])
+        for file, room in group:
+            with open(f"copies/{file.name}.part", "xb", buffering=0) as target:
+                for at in range(0, size, len(room)):
+                    target.write(memoryview(room)[:min(len(room), size - at)])
+                os.link(f"copies/{file.name}.part", f"copies/{file.name}")
+                os.unlink(f"copies/{file.name}.part")
         took = [took[0] + middle - start, took[1] + time.monotonic() - middle]
     return took
+
+
+def floor(name, parts, shared):
+    """The least seconds that a command can take whose first thread reads and writes in turn, if SHARED seconds are spent outside the kernel.
+    Lanes share only these; workers work while the first thread reads and writes."""
+    command, how, several = (name.split() + ["1"])[:3]
+    several = int(several) if several.isdigit() else 1
+    read, written = parts[several if how == "--lanes" else 1]
+    in_turn = {"seal": read + written, "verify": read, "open": 2 * read + written}.get(command, read + written)
+    if how == "--lanes":
+        return in_turn + shared / several
+    return max(in_turn, (in_turn + shared) / several)
 
 
 def measured(size, count):
@@ -99,12 +120,11 @@ def measured(size, count):
     for _ in range(asked.rounds):
         for name, (words, before) in works.items():
             best[name] = min(best.get(name, (1e9, 0, 0)), timed(words, before))
+    parts = {it: [min(took) for took in zip(*(read_and_written(folder, it) for _ in range(asked.rounds)))] for it in (1, 2, 4)}
     for name in works:
         one, _, shared = best.get(f"{name.split()[0]} --workers 1", best["cp -r"])
-        floor = 1 - shared * (1 - 1 / int(name.split()[-1])) / one if name.startswith(("seal", "verify", "open")) else 1
-        print(f"{count:6} of {size:6} KiB  {name:20} {best[name][0]:7.3f} s  {best[name][0] / one:5.2f} of one worker, floor {floor:4.2f}  {best[name][1]:7.1f} k faults", flush=True)
-    parts = [min(it) for it in zip(*(read_and_written(folder) for _ in range(asked.rounds)))]
-    print(f"{count:6} of {size:6} KiB  read in turn {parts[0]:.3f} s, written in turn {parts[1]:.3f} s")
+        print(f"{count:6} of {size:6} KiB  {name:20} {best[name][0]:7.3f} s  {best[name][0] / one:5.2f} of one worker, floor {floor(name, parts, shared) / one:4.2f}  {best[name][1]:7.1f} k faults", flush=True)
+    print(f"{count:6} of {size:6} KiB  in turn, by groups of 1, 2, 4: read {', '.join(f'{it[0]:.3f}' for it in parts.values())} s, written {', '.join(f'{it[1]:.3f}' for it in parts.values())} s")
     copies()
     shutil.rmtree(folder)
 
