@@ -525,13 +525,14 @@ list: line 3: not UTF-8: \\xff
 list: line 1: has the output of './files/x/a'
 list: line 4: no last name: files/..
 list: line 5: has the output of './files/x/a'" --keep-going --into files/into ./files/x/a
-printf 'files/x/a\n\nfiles/y/a\nfiles//y/a\n../a\n' > list
+# no other program has a folder of this name beside the room
+printf 'files/x/a\n\nfiles/y/a\nfiles//y/a\n../sealer-runs-absent/a\n' > list
 mkdir files/tree
 which each-of-a-tree 1 'sealed files/x/a file 6 bytes 1
 failed : cannot open
 sealed files/y/a file 7 bytes 2
 failed files//y/a: output exists
-failed ../a: cannot open' 'list: line 2: empty
+failed ../sealer-runs-absent/a: cannot open' 'list: line 2: empty
 list: line 4: has the output of line 3' --keep-going --into files/tree --parents
 # So of a hundred thousand names, each twice, in the time of one pass over them.
 python3 -c 'for name in range(50000): print(f"files/none/{name}\nnone/{name}")' > list
