@@ -33,7 +33,7 @@ fn two_outputs(alloc: Global, plain: &[u8]) -> Option<bool> {
     let Ok(mut reader) = folder.open("a.stm") else {
         return None;
     };
-    let Ok(read) = read_to_limit(alloc, &mut reader, 1 << 20, 0) else {
+    let Ok(read) = read_to_limit(alloc, &mut reader, Vec::new(alloc), 1 << 20, 0) else {
         return None;
     };
     Some(read.as_slice() == sealed.as_slice() && folder.bytes("b.stm").is_none())

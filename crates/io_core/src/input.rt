@@ -7,7 +7,7 @@ ghost use Rattle.io_core.specs.Streams.{Consumes, IsAtEnd, counted};
 ghost use Rattle.io_core.specs.Reads.{ConsumesExactly, ConsumesFewer, ConsumesUpTo, is_read};
 
 use crate::stream::{Failed, Source};
-use std::alloc::Global;
+use std::alloc::{AllocError, Global};
 
 /// Why an input wasn't read to its end.
 #[derive(Clone, Copy, PartialEq, Eq, Debug)]
@@ -19,6 +19,9 @@ pub enum ReadFault {
     /// The reader failed.
     Read,
 }
+
+// Most bytes requested from the reader in one call where more are wanted: whoever watches sees how far it is.
+const PART: usize = 1 << 22;
 
 /// Reads until the buffer is full or the input ends, and returns the number of bytes read. On failure the buffer isn't
 /// full.
@@ -32,7 +35,8 @@ pub fn fill<R: Source>(source: &mut R, buffer: &mut [u8]) -> Result<usize, Faile
 {
     let mut filled = 0;
     while filled < buffer.len() {
-        let n = source.read(&mut buffer[filled..])?;
+        let end = filled + (buffer.len() - filled).min(PART);
+        let n = source.read(&mut buffer[filled..end])?;
         if n == 0 {
             return Ok(filled);
         }
@@ -41,15 +45,33 @@ pub fn fill<R: Source>(source: &mut R, buffer: &mut [u8]) -> Result<usize, Faile
     Ok(filled)
 }
 
-// Most bytes requested from the reader in one call.
+// Most bytes requested in one call after those that were expected.
 const WINDOW: usize = 1 << 14;
 
+// How many bytes more than needed a room may have.
+const SPARE: usize = 1 << 20;
+
+// Makes a buffer of at least `size` bytes from `room`, or anew if that has room for fewer or for far more.
+fn sized(alloc: Global, mut room: Vec<u8>, size: usize) -> Result<Vec<u8>, AllocError>
+    ensures { IfOk result (λ bytes. size ≤ vec_len bytes) }
+{
+    if room.capacity() < size || room.capacity() - size > SPARE {
+        drop(room);
+        return vec![in alloc; 0; size];
+    }
+    if room.len() < size {
+        room.resize(size, 0)?;
+    }
+    Ok(room)
+}
+
 /// Reads to the end of an input of at most `max` bytes. From a longer input it reads exactly `max` + 1 bytes, and
-/// returns `TooLong`. Room for `expected` bytes, or for `max` if that is less, is taken first, so that an input of this
-/// length is copied once. It may have another.
+/// returns `TooLong`. `expected` bytes, or `max` if that is less, are read into the memory of `room` if it fits, or else
+/// into new memory, so they aren't copied. The input may have another length. Nothing that `room` held is returned.
 pub fn read_to_limit<R: Source>(
     alloc: Global,
     source: &mut R,
+    room: Vec<u8>,
     max: u64,
     expected: u64,
 ) -> Result<Vec<u8>, ReadFault>
@@ -63,9 +85,18 @@ pub fn read_to_limit<R: Source>(
     ensures count { R.failures source.new ≡ counted (is_read result) (R.failures source.old) }
 {
     let limit = max as usize + 1;
-    let Ok(mut bytes) = Vec::with_capacity(alloc, expected.min(max) as usize) else {
+    let size = expected.min(max) as usize;
+    let Ok(mut bytes) = sized(alloc, room, size) else {
         return Err(ReadFault::OutOfMemory);
     };
+    let (whole, _) = bytes.as_mut_slice().split_at_mut(size);
+    let Ok(n) = fill(source, whole) else {
+        return Err(ReadFault::Read);
+    };
+    bytes.truncate(n);
+    if n < size {
+        return Ok(bytes);
+    }
     let mut window = [0; WINDOW];
     while bytes.len() < limit {
         let most = (limit - bytes.len()).min(WINDOW);

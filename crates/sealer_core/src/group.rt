@@ -190,7 +190,8 @@ fn refuse_group<L: Report>(alloc: Global, names: &[&str], lines: &mut L, start: 
     status
 }
 
-// Seals the files of a group, at most as many as there are seats. Returns the status so far.
+// Seals the files of a group, at most as many as there are seats. Plaintexts are read into the memory of `rooms`, which
+// then has those of this group. Returns the status so far.
 fn seal_group<T: Threads + Wait + Sync, F: SealingFolder, L: Report>(
     rt: &T,
     alloc: Global,
@@ -200,6 +201,7 @@ fn seal_group<T: Threads + Wait + Sync, F: SealingFolder, L: Report>(
     folder: &mut F,
     options: &SealOptions,
     names: &[&str],
+    rooms: &mut Vec<Vec<u8>>,
     lines: &mut L,
     status: u8,
 ) -> u8
@@ -220,11 +222,12 @@ fn seal_group<T: Threads + Wait + Sync, F: SealingFolder, L: Report>(
         let outcome = seal_file(rt, alloc, key, ledger, seats, folder, options, name);
         return tell(alloc, lines, status, name, outcome);
     }
-    let Ok((files, jobs)) = prepare_group(alloc, folder, names, options.max_bytes) else {
+    let Ok((files, jobs)) = prepare_group(alloc, folder, names, options.max_bytes, rooms) else {
         return refuse_group(alloc, names, lines, status);
     };
     let (texts, shape) = (jobs.as_slice(), options.shape);
     let outcomes = seal_jobs(rt, alloc, key, ledger, seats, texts, shape);
+    *rooms = jobs;
     meet_seats(ledger, seats);
     end_group(
         alloc, key, shape, ledger, seats, folder, lines, status, files, outcomes,
@@ -255,11 +258,12 @@ pub(crate) fn seal_groups<T: Threads + Wait + Sync, F: SealingFolder, L: Report>
 {
     let mut status = 0;
     let mut done = 0;
+    let mut rooms = Vec::new(alloc);
     while done < options.files.len() {
         let (_, rest) = options.files.split_at(done);
         let (group, _) = rest.split_at(rest.len().min(seats.len()));
         status = seal_group(
-            rt, alloc, key, ledger, seats, folder, options, group, lines, status,
+            rt, alloc, key, ledger, seats, folder, options, group, &mut rooms, lines, status,
         );
         done += group.len();
     }

@@ -34,13 +34,14 @@ impl<'a, W: Drop> Prepared<'a, W> {
     }
 }
 
-// Opens a file's input, creates its output, and reads the input: its plaintext becomes the last of the jobs. Of an input
-// that was too long when it was opened nothing is read.
+// Opens a file's input, creates its output, and reads the input into the memory of `room`: its plaintext becomes the
+// last of the jobs. Of an input that was too long when it was opened nothing is read.
 fn prepare_file<'a, F: Folder>(
     alloc: Global,
     folder: &mut F,
     name: &'a str,
     max_bytes: u64,
+    room: Vec<u8>,
     jobs: &mut Vec<Vec<u8>>,
 ) -> Prepared<'a, F::Writer>
     requires max_bytes { max_bytes ≤ MAX_BYTES }
@@ -62,7 +63,7 @@ fn prepare_file<'a, F: Folder>(
         return Prepared::Unread(name, writer, SealFault::TooLong);
     }
     let expected = folder.length(&reader).unwrap_or(0);
-    let plain = match read_plain(alloc, &mut reader, max_bytes, expected) {
+    let plain = match read_plain(alloc, &mut reader, room, max_bytes, expected) {
         Ok(plain) => plain,
         Err(fault) => return Prepared::Unread(name, writer, fault),
     };
@@ -73,12 +74,14 @@ fn prepare_file<'a, F: Folder>(
     }
 }
 
-/// Prepares the files of a group in turn. Returns what became of each, and the plaintexts of those that were read.
+/// Prepares the files of a group in turn. Returns what became of each, and the plaintexts of those that were read, in the
+/// memory of `rooms` where one of them fits.
 pub(crate) fn prepare_group<'a, F: Folder>(
     alloc: Global,
     folder: &mut F,
     names: &[&'a str],
     max_bytes: u64,
+    rooms: &mut Vec<Vec<u8>>,
 ) -> Result<(VecDeque<Prepared<'a, F::Writer>>, Vec<Vec<u8>>), AllocError>
     requires max_bytes { max_bytes ≤ MAX_BYTES }
     ensures names { IfOk result (λ group. map name_of group.0.items ≡ map (λ name. name.now) names.now) }
@@ -93,7 +96,8 @@ pub(crate) fn prepare_group<'a, F: Folder>(
     let mut files = VecDeque::with_capacity(alloc, names.len())?;
     let mut jobs = Vec::with_capacity(alloc, names.len())?;
     for name in names {
-        files.push_back_reserved(prepare_file(alloc, folder, name, max_bytes, &mut jobs));
+        let room = rooms.pop().unwrap_or(Vec::new(alloc));
+        files.push_back_reserved(prepare_file(alloc, folder, name, max_bytes, room, &mut jobs));
     }
     Ok((files, jobs))
 }

@@ -38,21 +38,28 @@ static CASES: [(&str, Case); 10] = [
         },
     ),
     (
-        "a file whose length isn't known is too long once it is read",
+        "a file whose length isn't known is too long once it is read, and has nothing of a longer one before",
         Case {
-            folder: &[("long", b"333"), ("c", b"22")],
+            folder: &[("long", b"333"), ("c", b"22"), ("d", b"44"), ("e", b"5")],
             trouble: Trouble::NoLengths,
             work: Work::Seal {
                 workers: 1,
                 lanes: 3,
             },
-            files: &["long", "c"],
+            files: &["long", "c", "d", "e"],
             max_bytes: 2,
             status: 1,
-            lines: b"failed long: too long\nsealed c file 0 bytes 2\n",
+            lines: b"failed long: too long\nsealed c file 0 bytes 2\nsealed d file 1 bytes 2\n\
+              sealed e file 2 bytes 1\n",
             faults: b"",
-            journal: b"range 1 0 2 3\n0 issue 0\n0 sealed 0\n",
-            left: &[("long.stm", Left::Absent), ("c.stm", Left::Holds(0, b"22"))],
+            journal: b"range 1 0 4 3\n0 issue 0\n0 issue 1\n0 sealed 0\n0 sealed 1\n0 issue 2\n\
+              0 sealed 2\n",
+            left: &[
+                ("long.stm", Left::Absent),
+                ("c.stm", Left::Holds(0, b"22")),
+                ("d.stm", Left::Holds(1, b"44")),
+                ("e.stm", Left::Holds(2, b"5")),
+            ],
         },
     ),
     (

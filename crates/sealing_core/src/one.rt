@@ -30,7 +30,7 @@ pub fn seal_one<R: Source, W: Sink>(
     ensures writes { HasWrittenContainer key.now one prefix max_bytes (R.left reader.old)
         (W.taken writer.old) (W.taken writer.new) (W.failures writer.old) (W.failures writer.new) result }
 {
-    let plain = read_plain(alloc, reader, max_bytes, 0)?;
+    let plain = read_plain(alloc, reader, Vec::new(alloc), max_bytes, 0)?;
     let bytes = seal(alloc, key, &Shape::one(), prefix, plain.as_slice())?;
     match write_all(writer, bytes.as_slice()) {
         Ok(()) => Ok(plain.len() as u64),

@@ -7,11 +7,12 @@ use container_core::{MAX_PLAIN, SealFault};
 use io_core::{ReadFault, Source, read_to_limit};
 use std::alloc::Global;
 
-/// Reads a plaintext of at most `max_bytes` bytes to its end. Of a longer one, one more byte is read. It is expected to
-/// have `expected` bytes, and room for them is taken first.
+/// Reads a plaintext of at most `max_bytes` bytes to its end, into the memory of `room` if it fits the `expected` bytes.
+/// Of a longer one, one more byte is read.
 pub fn read_plain<R: Source>(
     alloc: Global,
     reader: &mut R,
+    room: Vec<u8>,
     max_bytes: u64,
     expected: u64,
 ) -> Result<Vec<u8>, SealFault>
@@ -23,7 +24,7 @@ pub fn read_plain<R: Source>(
     ensures reads { HasReadPlain max_bytes (R.left reader.old) (R.left reader.new)
         (R.failures reader.old) (R.failures reader.new) result }
 {
-    match read_to_limit(alloc, reader, max_bytes, expected) {
+    match read_to_limit(alloc, reader, room, max_bytes, expected) {
         Ok(plain) => Ok(plain),
         Err(ReadFault::TooLong) => Err(SealFault::TooLong),
         Err(ReadFault::OutOfMemory) => Err(SealFault::OutOfMemory),
