@@ -1,6 +1,6 @@
 -- The round in hand, and the last block.
 use Rattle.std.specs.Prelude.{◌≡◌, ℕ, ◌+◌, ◌*◌, ◌^◌, ◌<◌, ◌≤◌, true, false, List, [], ◌∷◌, length, take, Option}
-use Rattle.std.specs.Prelude.{if◌then◌else◌, ⊤}
+use Rattle.std.specs.Prelude.{if◌then◌else◌, ◌⊎◌, ⊤}
 use Rattle.std.specs.VecDeque.{deque_capacity}
 use Rattle.container_core.specs.Container.{size_in}
 use Rattle.sealing_core.specs.declared.piece.Task.{Task}
@@ -14,11 +14,12 @@ use Rattle.sealing_core.specs.Pieces.{block, room, IsBlock, IsChunk, IsPart, IsT
 use Rattle.container_core.specs.Chunks.{max_chunks}
 
 -- something may be read, no round is empty or larger than what may be held, and chunk numbers have 32 bits. So do those
--- of a block after the last byte of the limit
+-- of a block after the last byte of the limit. If a round waits for the next one to be put, two may be held
 pub record IsPlan (each : ℕ) (header : List ℕ) (plan : Plan) : Type 0 where
   pub limit : (0 < plan.limit) × (plan.limit ≤ 2 ^ 53)
   pub group : 0 < plan.group
   pub depth : plan.group ≤ plan.depth
+  pub rounds : (plan.eager ≡ true) ⊎ (2 * plan.group ≤ plan.depth)
   pub same : plan.each ≡ each
   pub fits : IsBlock each header
   pub numbers : plan.limit + block each header ≤ 2 ^ 32 * size_in header + 1

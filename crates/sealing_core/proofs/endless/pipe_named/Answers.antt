@@ -1,4 +1,4 @@
-use Rattle.std.proofs.Common.{arith, refl, ◌≡◌, ◌+◌, ◌-◌, ◌*◌, ◌<◌, ◌≤◌, ◌∙◌, ℕ, List, Option, ap, sym, subst, true}
+use Rattle.std.proofs.Common.{arith, inl, refl, ◌≡◌, ◌+◌, ◌-◌, ◌*◌, ◌<◌, ◌≤◌, ◌∙◌, ℕ, List, Option, ap, sym, subst, true}
 use Rattle.std.proofs.Math.Nat.{mul-le-mul_right}
 use Rattle.container_core.specs.Container.{size_in}
 use Rattle.io_core.specs.Streams.{Appends, AppendsFront, LacksSome}
@@ -56,6 +56,7 @@ plan_is header max_chunks size depth is least most few some =
       limit = (omega arith, omega arith);
       group = omega arith;
       depth = omega arith;
+      rounds = inl refl;
       same = refl;
       fits = (omega arith, omega arith);
       numbers = omega arith;

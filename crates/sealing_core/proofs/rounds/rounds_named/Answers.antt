@@ -1,4 +1,4 @@
-use Rattle.std.proofs.Common.{arith, refl, ◌+◌, ◌*◌, ◌<◌, ◌≤◌, false, [], ℕ, List, Option, ap, sym, subst, zero-mul}
+use Rattle.std.proofs.Common.{arith, inr, refl, ◌+◌, ◌*◌, ◌<◌, ◌≤◌, false, [], ℕ, List, Option, ap, sym, subst, zero-mul}
 use Rattle.std.proofs.KnownBytes.{Consumes-nil}
 use Rattle.container_core.specs.Container.{size_in}
 use Rattle.container_core.proofs.OpeningLemmas.{some_size}
@@ -79,6 +79,7 @@ plan_is each header max_bytes group is some most numbers = record {
   limit = (omega arith, omega arith);
   group = some;
   depth = omega arith;
+  rounds = inr (omega arith);
   same = refl;
   fits = is;
   numbers = omega arith;
