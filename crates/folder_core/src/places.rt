@@ -1,6 +1,6 @@
 //! The paths of outputs that a run puts into one folder: the folder and the base name of the file.
 
-ghost use Rattle.std.specs.Prelude.{◌≡◌, IfErr, IfSome, OnOk, None, map, string_bytes, true};
+ghost use Rattle.std.specs.Prelude.{◌≡◌, ◌≢◌, IfErr, IfSome, OnOk, None, map, string_bytes, true};
 ghost use Rattle.folder_core.specs.Places.{AreApart, HasNoLastName, IsBehind, IsBelow, IsLastName, OneHasNone};
 ghost use Rattle.folder_core.specs.Places.{TwoHaveOne};
 
@@ -53,6 +53,7 @@ pub fn are_apart(alloc: Global, files: &[&str]) -> Result<(), PlaceFault>
         → OneHasNone (map (λ file. file.now) files.now)) }
     ensures same_name { IfErr result (λ fault. fault ≡ PlaceFault.SameName
         → TwoHaveOne (map (λ file. file.now) files.now)) }
+    ensures fault { IfErr result (λ fault. fault ≢ PlaceFault.SamePlace) }
 {
     let mut names = BTreeSet::new(alloc);
     'files: for file in files {

@@ -88,7 +88,7 @@ pub fn are_placed_apart(alloc: Global, files: &[&str]) -> Result<(), PlaceFault>
     ensures apart { OnOk result (AllPairs (λ one other. one ≢ other) (places (map (λ file. file.now) files.now))) }
     ensures same { IfErr result (λ fault. fault ≡ PlaceFault.SamePlace
         → AllPairs (λ one other. one ≢ other) (places (map (λ file. file.now) files.now)) → ⊥) }
-    ensures fault { IfErr result (λ fault. fault ≢ PlaceFault.NoName) }
+    ensures fault { IfErr result (λ fault. (fault ≢ PlaceFault.NoName) × (fault ≢ PlaceFault.SameName)) }
 {
     let Ok(found) = places_of(alloc, files) else {
         return Err(PlaceFault::OutOfMemory);
