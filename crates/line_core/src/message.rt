@@ -178,13 +178,6 @@ fn are_digits(text: &str) -> bool
     true
 }
 
-// A text that is digits.
-fn digits_in(text: &str) -> Option<&str>
-    ensures { IfSome result (λ digits. (digits.now ≡ text.now) × AreDigits digits.now) }
-{
-    if are_digits(text) { Some(text) } else { None }
-}
-
 fn sealed_of(rest: &str) -> Option<Message<'_>>
     ensures { IfSome result (λ message. message_text message ≡ codes "sealed " ++ rest.now) }
 {
@@ -247,7 +240,9 @@ fn numbers_of<'a>(numbers: &'a str, label: Option<&'a str>) -> Option<Facts<'a>>
     let (front, number) = digits_after(numbers, " file ")?;
     let (front, device) = digits_after(front, " device ")?;
     let (version, chunk) = digits_after(front, " chunk ")?;
-    let version = digits_in(version)?;
+    if !are_digits(version) {
+        return None;
+    }
     Some(Facts {
         version,
         chunk,
