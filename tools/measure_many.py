@@ -5,7 +5,8 @@ FOLDER: an empty folder, best in memory-backed storage, with 6 times MIB free. T
 1024, 4096, 16384), and 10,000 files of 4 KiB. Everything is timed in turn, ROUNDS (3) times over, and the least counts: wall seconds, and the
 page faults of that run in thousands. Then it prints each as a part of the time of one worker, with its floor: what one thread takes that only
 reads these files and writes as many in turn, as the first one does, and the seconds that one worker spent outside the kernel, shared. Threads
-cost nothing there. PROGRAM is crates/sealer/out/sealer by default.
+cost nothing there; where some are started, a second figure adds what about that takes, by tools/thread_start.c (it needs cc). PROGRAM is
+crates/sealer/out/sealer by default.
 """
 import argparse
 import os
@@ -26,6 +27,9 @@ asked = asked.parse_args()
 SMALL, MANY = 4, 10_000
 # How many bytes are read and written at a time where only that is timed.
 PIECE = 1 << 16
+# In KiB: the least file for which a lane is started; the bytes for which `verify` and `open` start a worker, and those of a round.
+LANE, SHARE, ROUND = 256, 1024, 2048
+STARTER = Path(__file__).resolve().with_name("thread_start.c")
 os.chdir(asked.folder)
 Path("key").write_text("5a" * 32 + "\n", encoding="ascii")
 
@@ -91,6 +95,27 @@ def read_and_written(folder, at_once):
     return took
 
 
+def thread_costs():
+    """The seconds in which the first thread starts 0, 1, 2 and 3 threads."""
+    subprocess.run(["cc", "-O2", "-pthread", "-o", "thread_start", STARTER], check=True)
+    said = subprocess.run(["./thread_start"], capture_output=True, text=True, check=True).stdout
+    print("microseconds to start 1, 2, 3 threads, and to join them too: " + "; ".join(line.split(" ", 1)[1] for line in said.splitlines()))
+    return [0.0, *(float(line.split()[1]) / 1e6 for line in said.splitlines())]
+
+
+def starts(name, size, count):
+    """How often a command starts threads over COUNT files of SIZE KiB, and how many at a time."""
+    command, how, several = (name.split() + ["1"])[:3]
+    if how == "--lanes":
+        return (-(-count // int(several)), min(int(several), count) - 1) if size >= LANE else (0, 0)
+    if command == "seal":
+        return count, max(min(int(several), size // 64), 1) - 1
+    if command in ("verify", "open"):
+        readings = 2 if command == "open" else 1
+        return readings * count * -(-size // ROUND), max(min(int(several), size // SHARE), 1) - 1
+    return 0, 0
+
+
 def floor(name, parts, shared):
     """The least seconds that a command can take whose first thread reads and writes in turn, if SHARED seconds are spent outside the kernel.
     Lanes share only these; workers work while the first thread reads and writes."""
@@ -123,12 +148,17 @@ def measured(size, count):
     parts = {it: [min(took) for took in zip(*(read_and_written(folder, it) for _ in range(asked.rounds)))] for it in (1, 2, 4)}
     for name in works:
         one, _, shared = best.get(f"{name.split()[0]} --workers 1", best["cp -r"])
-        print(f"{count:6} of {size:6} KiB  {name:20} {best[name][0]:7.3f} s  {best[name][0] / one:5.2f} of one worker, floor {floor(name, parts, shared) / one:4.2f}  {best[name][1]:7.1f} k faults", flush=True)
+        times, threads = starts(name, size, count)
+        least = floor(name, parts, shared)
+        with_starts = f", with threads {(least + times * costs[threads]) / one:4.2f}" if threads else ""
+        floors = f"floor {least / one:4.2f}{with_starts}"
+        print(f"{count:6} of {size:6} KiB  {name:20} {best[name][0]:7.3f} s  {best[name][0] / one:5.2f} of one worker, {floors}  {best[name][1]:7.1f} k faults", flush=True)
     print(f"{count:6} of {size:6} KiB  in turn, by groups of 1, 2, 4: read {', '.join(f'{it[0]:.3f}' for it in parts.values())} s, written {', '.join(f'{it[1]:.3f}' for it in parts.values())} s")
     copies()
     shutil.rmtree(folder)
 
 
+costs = thread_costs()
 for kib in asked.size or (64, 1024, 4096, 16384):
     measured(kib, (asked.mib << 10) // kib)
 if not asked.size:
