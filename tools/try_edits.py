@@ -1,9 +1,8 @@
 #!/usr/bin/env python3
-"""try_edits.py [--turn | NAME..]: checks docs/edits.txt, the record of what each wrong body in crates/*/edits/ came to, and tries edits.
+"""try_edits.py [--lend | --take FILE | NAME..]: checks docs/edits.txt, the record of what each wrong body in crates/*/edits/ came to, and tries edits.
 
 An edit is a wrong body that the prover has to refuse, in the form of `rt must-fail`. Those in crates/X/must-fail/ are tried by each `rt ci`;
-those in crates/X/edits/ are tried here, by `rt ci` over a copy of the crate and of those below it, which proves only what no earlier one on
-this machine did. They have a line each in docs/edits.txt:
+those in crates/X/edits/ have a line each in docs/edits.txt:
 
     CRATE/EDIT  DAY  OWN  BELOW  where it was refused, and by which goal
 
@@ -12,9 +11,13 @@ specs/ and the heads of their public items (not the lemmas that its proofs cite:
 lines are checked, in seconds: an edit without a line, a line without an edit, a stale OWN, a DAY to come, or a text to replace that isn't once in
 its file fails. Where BELOW alone is stale the edit waits for its turn since DAY. An edit that was only moved here has a line without sums, `- - untried`, and waits too.
 
-NAME.. (CRATE or CRATE/EDIT) tries these edits, or `stale` all whose lines are absent or stale, and writes their lines. --turn, for the gate, also
-tries eight edits of one crate, among those that have waited longest: an edit that isn't refused, or a line that says something else, fails.
-What passes is written: commit docs/edits.txt, so that others have their turn.
+NAME.. (CRATE or CRATE/EDIT) tries these edits, or `stale` all whose lines are absent or stale, and writes their lines. It calls `rt ci` over a copy
+of the crate and of those below it; a kit that keeps nothing then proves all of these anew.
+
+A gate has a turn: eight edits of one crate, among those that have waited longest. --lend copies them into the crate's must-fail/, as turn-EDIT, so
+that the gate's own `rt ci` tries them over what it proves anyway. --take removes them, and reads in FILE, which has what `rt ci` printed, what they
+came to: an edit that isn't refused, or a line that says something else, fails. What passes is written: commit docs/edits.txt, so that others have
+their turn.
 """
 import datetime
 import hashlib
@@ -32,6 +35,8 @@ HEAD = "# What each edit in crates/*/edits/ came to, written by tools/try_edits.
 UNTRIED = ("-", "-", "untried")
 # How many edits a turn has: of the crate where they are dearest these take ten minutes of one processor.
 TURN = 8
+# How the name of an edit begins in must-fail/ while it is its turn; .gitignore has it.
+LENT = "turn-"
 REFUSED = re.compile(r"^rt: must-fail (\S+)/(\S+)\.edit: refused, as it must be: (?:note: )?(\S+?:\d+):\d+: .*?\(?`([^`]+)`\)?")
 FUNCTION = re.compile(r"(pub(\([^)]*\))? )?(const |unsafe )*fn ")
 TRAIT = re.compile(r"(pub )?(unsafe )?trait\b|impl\b.* for ")
@@ -142,17 +147,20 @@ def try_edits(edits, names):
         for name in names:
             shutil.copy2(edits.files[name], room / "crates" / crate / "must-fail")
         ran = subprocess.run(["rt", "ci"], cwd=room, stdin=subprocess.DEVNULL, stdout=subprocess.PIPE, stderr=subprocess.STDOUT, text=True, errors="replace")
+    return outcomes(ran.stdout, names)
+
+
+def outcomes(said, names):
+    """Where and by which goal `rt ci`, which said this, refused these edits, and what went wrong with the others."""
     found, wrong = {}, {}
-    for line in ran.stdout.splitlines():
-        refused, said = REFUSED.match(line), ANY.match(line)
+    for line in said.splitlines():
+        refused, other = REFUSED.match(line), ANY.match(line)
         if refused and "only because" not in line and "only by a limit" not in line:
             found[f"{refused[1]}/{refused[2]}"] = f"{refused[3]} {refused[4]}"
-        elif said:
-            wrong[f"{said[1]}/{said[2]}"] = said[3]
-    for name in names:
-        if name not in found and name not in wrong:
-            wrong[name] = f"not tried: {ran.stdout.strip()[-300:]}"
-    return found, wrong
+        elif other:
+            wrong[f"{other[1]}/{other[2]}"] = other[3]
+    missed = {name: f"not tried: {said.strip()[-300:]}" for name in names if name not in found and name not in wrong}
+    return {it: found[it] for it in names if it in found}, {it: wrong[it] for it in names if it in wrong} | missed
 
 
 def stale(edits, record):
@@ -190,10 +198,24 @@ def turn_of(edits, record, waits):
     return sorted(names[first:] + names[:first], key=lambda name: record[name][0])[:TURN]
 
 
+def lent():
+    """The copies of edits in must-fail/ folders, by the name of each edit."""
+    files = (TOP / "crates").glob(f"*/must-fail/{LENT}*.edit")
+    return {f"{it.parent.parent.name}/{it.stem.removeprefix(LENT)}": it for it in files}
+
+
+def give_back():
+    """Removes these copies, and a folder that has nothing else."""
+    for file in lent().values():
+        file.unlink()
+        if not any(file.parent.iterdir()):
+            file.parent.rmdir()
+
+
 def main(words):
     edits, record, failed = Edits(), read_record(), []
     bad, waits = stale(edits, record)
-    wanted = [it for it in words if it != "--turn"]
+    wanted = words if words and not words[0].startswith("--") else []
     today = datetime.date.today().isoformat()
     if wanted:
         names = [name for name in edits.sums if name in wanted or name.split("/")[0] in wanted or "stale" in wanted and name in bad + waits]
@@ -212,10 +234,18 @@ def main(words):
         failed += [f"{name}: {line[0]} is still to come" for name, line in record.items() if line[0] > today]
         since = f" since {min(record[it][0] for it in waits)}" if waits else ""
         print(f"edits: {len(edits.sums)}, of which {len(edits.sums) - len(bad)} have a line, and {len(waits)} wait for their turn{since}")
-    if "--turn" in words and not failed and edits.sums:
-        names = turn_of(edits, record, waits)
-        found, wrong = try_edits(edits, names)
-        failed += [f"{name}: {why}" for name, why in wrong.items()]
+    if words[:1] == ["--lend"] and not failed and edits.sums:
+        give_back()
+        for name in turn_of(edits, record, waits):
+            room = TOP / "crates" / name.split("/")[0] / "must-fail"
+            room.mkdir(exist_ok=True)
+            shutil.copy2(edits.files[name], room / f"{LENT}{edits.files[name].name}")
+    if words[:1] == ["--take"] and not failed:
+        names = sorted(lent())
+        give_back()
+        said = Path(words[1]).read_text(encoding="utf-8", errors="replace").replace(f"/{LENT}", "/")
+        found, wrong = outcomes(said, names)
+        failed += [f"{name}: {why}" for name, why in wrong.items()] if names else ["no edit had its turn"]
         failed += [f"{name}: refused at {where}, and its line says {record[name][3]}" for name, where in found.items() if record[name][3] not in (UNTRIED[2], where)]
         record.update({name: (today, *edits.sums[name], where) for name, where in found.items()})
         print(f"edits: tried anew, as it was their turn: {' '.join(names)}")
