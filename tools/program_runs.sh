@@ -2331,7 +2331,7 @@ unnumbered
 wants lanes 1 "$(for i in 1 2 3 4 5 6 7 8 9; do echo "sealed life/lanes/$i bytes $(wc -c < "life/lanes/$i")"; done)
 failed life/lanes/none: cannot open" ''
 is lanes-terms test "$(head -1 life/lanes/journal)" = 'range 9 0 10 4'
-# For each file a number is issued once, to whichever lane drew it.
+# For each file a number is issued once.
 is lanes-issue-each test "$(grep -c ' issue [0-9]' life/lanes/journal)" = 9
 run audit < life/lanes/journal
 wants lanes-journal 0 'legal: 9 granted, 9 sealed, 0 void, 0 open, 0 refused' ''
@@ -2339,6 +2339,25 @@ for i in 1 2 3 4 5 6 7 8 9; do
     mv "life/lanes/$i" "life/lanes/$i.plain"
     run open --key "$key" "life/lanes/$i.stm"
     is "lane-opens-$i" cmp -s "life/lanes/$i" "life/lanes/$i.plain"
+done
+# Two files that are worth a lane each, and a third that follows: each has a number of its own.
+head -c 300000 /dev/zero | tr '\0' x > life/lanes/x
+head -c 300000 /dev/zero | tr '\0' y > life/lanes/y
+printf 333 > life/lanes/z
+run seal --key "$key" --ledger life/lanes/ledger --device 1 --lanes 2 --journal life/lanes/two life/lanes/x life/lanes/y life/lanes/z
+is two-lanes-numbers test "$(sed -n 's/.* file \([01]\) bytes 300000$/\1/p' out | sort | tr '\n' ' ')$(tail -n 1 out)" = \
+    '0 1 sealed life/lanes/z file 2 bytes 3'
+unnumbered
+wants two-lanes 0 'sealed life/lanes/x bytes 300000
+sealed life/lanes/y bytes 300000
+sealed life/lanes/z bytes 3' ''
+is two-lanes-terms test "$(head -n 1 life/lanes/two)" = 'range 1 0 3 2'
+run audit < life/lanes/two
+wants two-lanes-journal 0 'legal: 3 granted, 3 sealed, 0 void, 0 open, 0 refused' ''
+for name in x y z; do
+    mv "life/lanes/$name" "life/lanes/$name.plain"
+    run open --key "$key" "life/lanes/$name.stm"
+    is "two-lanes-open-$name" cmp -s "life/lanes/$name" "life/lanes/$name.plain"
 done
 by_lanes 16 --max-bytes 3893 life/lanes/1 life/lanes/2.plain life/lanes/1.plain
 wants lanes-again 1 'failed life/lanes/1: output exists
@@ -2738,6 +2757,16 @@ for input in files/more.stm -; do
     run open --key "$key" --max-bytes 348893 --to files/named "$input" < files/more.stm
     wants "open-to-max-bytes $input" 1 "failed $input: too long" ''
 done
+# The same of a pipe, which can't be read again.
+for workers in 1 4; do
+    run open --key "$key" --workers $workers --to files/named - < <(cat files/wrong)
+    wants "open-pipe-of-a-cut $workers" 1 'failed -: chunk 85 does not check' ''
+    run open --key "$key" --workers $workers --label none --to files/named - < <(cat files/more.stm)
+    wants "open-pipe-of-another-label $workers" 1 'failed -: another label' ''
+    run open --key "$key" --workers $workers --max-bytes 348893 --to files/named - < <(cat files/more.stm)
+    wants "open-pipe-too-long $workers" 1 'failed -: too long' ''
+    is "open-pipe-makes-nothing $workers" test ! -e files/named
+done
 run open --key "$key" --to files/named - <&-
 wants open-closed-input 1 'failed -: read failed' ''
 run verify --key "$key" - < files
@@ -2796,6 +2825,19 @@ sealed files/long file 2 bytes 16773097' ''
 is spool-sealed-lengths test "$(stat -c %s files/fits.stm files/long.stm | tr '\n' ' ')" = '16777216 16777217 '
 unpiped --spool files/spool < <(cat files/fits.stm)
 unpipes spool-is-not-needed 'opened - bytes 16773096' files/fits
+# Lengths about a block of the spool's memory, 256 KiB, and one of many blocks and a file; what comes in small pieces is kept alike.
+if has cryptography; then
+    for length in 262143 262144 262145 786439 41943040; do
+        yes plaintext | head -c $((length - 24 - 16 * ((length - 24 + 65551) / 65552))) > files/spooled
+        python3 "$here/tools/seal_container.py" "$key" 1 3 files/spooled files/spooled.stm
+        is "spool-of-$length-is-as-long" test "$(stat -c %s files/spooled.stm)" = $length
+        for block in 10007 1048576; do
+            unpiped --spool files/spool < <(dd if=files/spooled.stm bs=$block status=none)
+            unpipes "spool-of-$length-by-$block" "opened - bytes $(stat -c %s files/spooled)" files/spooled
+        done
+    done
+    rm files/spooled files/spooled.stm
+fi
 # Its second reading counts in the progress line too: a slow reader sees more there than the 16 MiB of the first.
 "$sealer" unpipe --key "$key" --spool files/spool --progress=always < <(cat files/fits.stm) 2> err |
     { for _ in 1 2 3 4; do head -c 4194304; sleep 0.3; done; cat; } > files/plain
@@ -2851,6 +2893,17 @@ TMPDIR=none unpiped --spool files/spool < <(cat files/long.stm)
 unpipes spool-comes-before-the-environment 'opened - bytes 16773097' files/long
 (trap '' XFSZ; ulimit -f 8192; exec "$sealer" unpipe --key "$key" --spool files/spool < <(cat files/long.stm) 2> err | cat > files/plain; exit "${PIPESTATUS[0]}"); status=$?; : > out
 refuses spool-that-ends 'failed -: spool failed'
+# Damage and another label are reported before a spool that ends. A changed byte keeps the length, so that the spool needs its file.
+ends_its_spool() { # FILE OPTIONS..
+    (trap '' XFSZ; ulimit -f 8192; "$sealer" unpipe --key "$key" --spool files/spool "${@:2}" < <(cat "$1") 2> err | cat > files/plain; exit "${PIPESTATUS[0]}"); status=$?; : > out
+}
+{ head -c 16777216 files/long.stm; tail -c 1 files/long.stm | tr '\000-\377' '\001-\377\000'; } > files/wrong
+unpiped --spool files/spool < <(cat files/wrong)
+refuses spool-of-a-changed-stream 'failed -: chunk 255 does not check'
+ends_its_spool files/wrong
+refuses spool-that-ends-of-a-changed-stream 'failed -: chunk 255 does not check'
+ends_its_spool files/long.stm --label x
+refuses spool-that-ends-of-another-label 'failed -: another label'
 is nothing-is-left-of-a-spool test -z "$(ls -A files/spool)"
 if mount -t tmpfs -o size=300k none small 2>/dev/null; then
     unpiped --spool small < <(cat files/long.stm)
