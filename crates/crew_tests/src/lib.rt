@@ -24,6 +24,8 @@ mod seats;
 mod shapes;
 #[cfg(test)]
 mod shelves;
+#[cfg(test)]
+mod windows;
 
 pub use crate::grants::grant_of;
 pub use crate::known::{EIGHT, EIGHTEEN, ZERO_BYTES, ZEROS, ZEROS_SEALED, is_digest, sealed_zeros};

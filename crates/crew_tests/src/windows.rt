@@ -1,5 +1,5 @@
 //! How many chunks a round of a file has by default.
-use worker_core::{MAX_WORKERS, usual_opening, usual_window};
+use claim_core::{MAX_WORKERS, usual_opening, usual_window};
 
 // A chunk's bytes, the workers, and the chunks of a round when sealing and when opening.
 static USUAL: [(usize, u32, u32, u32); 13] = [
