@@ -6,8 +6,6 @@ mod disk;
 #[cfg(test)]
 mod faults;
 #[cfg(test)]
-mod folds;
-#[cfg(test)]
 mod refused;
 #[cfg(test)]
 mod stops;
