@@ -337,11 +337,11 @@ fn each_call_fails_while_one_lane_seals(rt: HostRuntime) {
 }
 
 // Long enough for each to be worth a lane.
-static ONES: [u8; 40_000] = [1; 40_000];
+static ONES: [u8; 262_144] = [1; 262_144];
 
-static TWOS: [u8; 40_000] = [2; 40_000];
+static TWOS: [u8; 262_144] = [2; 262_144];
 
-static LONG: [u8; 40_001] = [3; 40_001];
+static LONG: [u8; 262_145] = [3; 262_145];
 
 // Six files with two lanes, in groups of two.
 fn holds_in_groups<R: AllocGlobal + Threads + Wait + Sync>(rt: &R) -> bool {
@@ -359,8 +359,8 @@ fn holds_in_groups<R: AllocGlobal + Threads + Wait + Sync>(rt: &R) -> bool {
         folder: &folder,
         files: &["a", "b", "long", "c", "m", "a"],
         results: &results,
-        max_bytes: 40_000,
-        step: 20_000,
+        max_bytes: 262_144,
+        step: 131_072,
     };
     holds_at_each_call(rt, &run, 30)
 }

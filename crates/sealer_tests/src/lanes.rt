@@ -260,16 +260,16 @@ fn each_file_of_a_group_has_its_line_its_number_and_its_output(rt: HostRuntime) 
 // ---- two lanes
 
 // Two texts of a group, long enough for each to be worth a lane.
-static ONES: [u8; 40_000] = [1; 40_000];
+static ONES: [u8; 300_000] = [1; 300_000];
 
-static TWOS: [u8; 40_000] = [2; 40_000];
+static TWOS: [u8; 300_000] = [2; 300_000];
 
 // The numbers of the first two files, if the lines of the three are in order.
 fn first_two(lines: &[u8]) -> Option<(u8, u8)> {
     let in_order =
-        b"sealed a file 0 bytes 40000\nsealed b file 1 bytes 40000\nsealed c file 2 bytes 3\n";
+        b"sealed a file 0 bytes 300000\nsealed b file 1 bytes 300000\nsealed c file 2 bytes 3\n";
     let swapped =
-        b"sealed a file 1 bytes 40000\nsealed b file 0 bytes 40000\nsealed c file 2 bytes 3\n";
+        b"sealed a file 1 bytes 300000\nsealed b file 0 bytes 300000\nsealed c file 2 bytes 3\n";
     if lines == in_order.as_slice() {
         Some((0, 1))
     } else if lines == swapped.as_slice() {

@@ -6,10 +6,6 @@ mod calls;
 #[cfg(test)]
 mod cases;
 #[cfg(test)]
-mod changes;
-#[cfg(test)]
-mod damages;
-#[cfg(test)]
 mod each_call;
 #[cfg(test)]
 mod failing;
@@ -35,8 +31,6 @@ mod spools;
 mod stops;
 #[cfg(test)]
 mod streams;
-#[cfg(test)]
-mod three_chunks;
 #[cfg(test)]
 mod traces;
 #[cfg(test)]

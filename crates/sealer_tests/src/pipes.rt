@@ -184,18 +184,7 @@ pub(crate) fn ends<R: AllocGlobal + Threads + Wait + Sync>(rt: &R, run: &Run) ->
     }
 }
 
-// `Some(true)` if a run ends as `sealed` expects, `Some(false)` if as `failed` expects, else `None`.
-pub(crate) fn sealed_or_failed<R: AllocGlobal + Threads + Wait + Sync>(
-    rt: &R,
-    sealed: &Run,
-    failed: &Run,
-) -> Option<bool> {
-    match ledger_after(rt.alloc(), "") {
-        Some(mut file) => first_or_second(rt, &mut file, sealed, failed),
-        None => None,
-    }
-}
-
+// `Some(true)` if a run over this ledger file ends as `first` expects, `Some(false)` if as `second` does, else `None`.
 pub(crate) fn first_or_second<R: AllocGlobal + Threads + Wait + Sync, S: Fold>(
     rt: &R,
     file: &mut LedgerFile<S>,

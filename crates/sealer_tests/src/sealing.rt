@@ -358,29 +358,3 @@ fn a_second_run_has_the_numbers_and_the_ledger_file_that_the_first_left(rt: Host
         assert!(rt; both_end(&rt, sql, first, second) == Some(true), "{what}");
     }
 }
-
-// Whether `count` files with one name are refused.
-fn are_too_many<R: AllocGlobal + Threads + Wait + Sync>(rt: &R, count: usize) -> Option<bool> {
-    let files = vec![in rt.alloc(); "a"; count].ok()?;
-    let case = Case {
-        folder: &[("a", b"")],
-        trouble: Trouble::Nothing,
-        work: Work::Seal {
-            workers: 1,
-            lanes: 1,
-        },
-        files: files.as_slice(),
-        max_bytes: 8,
-        status: 2,
-        lines: b"",
-        faults: b"ledger: too many files\n",
-        journal: b"",
-        left: &[("a.stm", Left::Absent)],
-    };
-    Some(ends(rt, &case))
-}
-
-#[test]
-fn more_files_than_a_range_has_numbers_are_refused(rt: HostRuntime) {
-    assert!(rt; are_too_many(&rt, 65_536) == Some(true));
-}

@@ -1,7 +1,6 @@
 //! `pipe_all` over streams of zero bytes. The expected output is from Python's `cryptography` and `hashlib`, with the
 //! key 00 01 .. 1f and device 1. Lines and journals are written by hand.
-use crate::pipes::{Left, Run, ends, first_or_second, sealed_or_failed};
-use crate::runs::is_legal;
+use crate::pipes::{Left, Run, ends, first_or_second};
 use crate::stops::{Next, both_run};
 use folder_memory::MemoryFolder;
 use io_memory::Schedule;
@@ -149,7 +148,7 @@ fn each_stream_has_its_line_its_number_and_its_container(rt: HostRuntime) {
     }
 }
 
-// ---- calls that fail
+// ---- a call that fails
 
 // In the tag of chunk 0.
 static WRITE_FAILED: Run = Run {
@@ -164,53 +163,6 @@ static WRITE_FAILED: Run = Run {
     journal: b"range 1 0 1 1\n0 issue 0\n0 void 0\n",
     left: Left::Begun(4_130, 4_130, &FIRST),
 };
-
-// If a read failed, chunk 0 may be sealed, and chunk 1 isn't.
-static READ_FAILED: Run = Run {
-    count: 8_192,
-    step: 1_000,
-    reads: Schedule::Never,
-    writes: Schedule::Never,
-    lines: Schedule::Never,
-    journals: Some(Schedule::Never),
-    status: 1,
-    line: b"failed -: read failed\n",
-    journal: b"range 1 0 1 1\n0 issue 0\n0 void 0\n",
-    left: Left::Begun(25, 4_137, &FIRST),
-};
-
-// How many runs fail, each at the next call of the reader or the writer, before a run without a failing call.
-fn failed_before<R: AllocGlobal + Threads + Wait + Sync>(rt: &R, of_reader: bool) -> Option<u64> {
-    for call in 0..100u64 {
-        let mut sealed = TWO_CHUNKS;
-        let mut failed = READ_FAILED;
-        if of_reader {
-            sealed.reads = Schedule::Call(call);
-        } else {
-            sealed.writes = Schedule::Call(call);
-            failed.line = WRITE_FAILED.line;
-            failed.left = Left::Begun(0, 8_248, &FIRST);
-        }
-        match sealed_or_failed(rt, &sealed, &failed) {
-            Some(true) => return Some(call),
-            Some(false) => {}
-            None => return None,
-        }
-    }
-    None
-}
-
-// With 1,000 bytes a call: 4,097 with five, 4,095 with five more, and the end.
-#[test]
-fn each_failed_read_is_told(rt: HostRuntime) {
-    assert!(rt; failed_before(&rt, true) == Some(11));
-}
-
-// With 1,000 bytes a call: the header with one, and each sealed chunk of 4,112 bytes with five.
-#[test]
-fn each_failed_write_is_told(rt: HostRuntime) {
-    assert!(rt; failed_before(&rt, false) == Some(11));
-}
 
 // ---- the ledger file
 
@@ -260,13 +212,4 @@ fn is_followed<R: AllocGlobal + Threads + Wait + Sync>(rt: &R, first: &Run) -> b
 fn the_next_run_has_the_next_number(rt: HostRuntime) {
     assert!(rt; is_followed(&rt, &TWO_CHUNKS));
     assert!(rt; is_followed(&rt, &WRITE_FAILED));
-}
-
-// The journals that the runs above are compared with.
-#[test]
-fn the_journals_of_a_sealed_and_of_a_failed_stream_are_legal(rt: HostRuntime) {
-    let sealed = b"legal: 1 granted, 1 sealed, 0 void, 0 open, 0 refused\n";
-    assert!(rt; is_legal(rt.alloc(), TWO_CHUNKS.journal, sealed));
-    let failed = b"legal: 1 granted, 0 sealed, 1 void, 0 open, 0 refused\n";
-    assert!(rt; is_legal(rt.alloc(), WRITE_FAILED.journal, failed));
 }
