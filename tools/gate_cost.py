@@ -4,7 +4,8 @@
 Runs a command (by default .ci/run), looks at each process below it once a second, and adds what it saw to FILE. So a gate that took several
 runs, each over what the ones before kept, gives one table. Then it prints a table. For each crate that has the
 processor seconds of its proof, its tests, and its edits in must-fail/, with their number; the first edit proves the crate from nothing. It
-also has the most memory of one check. Processes that end within a second can be missed.
+also has the most memory of one check. Processes that end within a second can be missed. Last it prints the table of docs/DEVELOPING.md:
+proof, tests and edits of the dearest crates.
 """
 import collections
 import json
@@ -18,6 +19,8 @@ from pathlib import Path
 KINDS = ("proof", "tests", "edits", "other")
 # Crates below this many processor seconds come in one row.
 LEAST = 40
+# How many crates the table of docs/DEVELOPING.md has in a row, and in how many rows.
+ACROSS, DOWN = 4, 5
 
 
 def looked(leader, seen):
@@ -63,6 +66,18 @@ def table(rows):
     return "\n".join(lines)
 
 
+def short_table(rows):
+    """The table of docs/DEVELOPING.md: the dearest crates, row by row, each with the seconds of its proof, its tests and its edits."""
+    crates = collections.defaultdict(collections.Counter)
+    for crate, kind, seconds, _ in rows:
+        crates[crate][kind] += seconds
+    crates.pop("others", None)
+    dearest = sorted(crates, key=lambda it: -sum(crates[it].values()))[:ACROSS * DOWN]
+    cells = [f"`{it}` | " + " + ".join(f"{crates[it][kind]:.0f}" for kind in KINDS[:3] if crates[it][kind] >= 1) for it in dearest]
+    lines = ["| crate | s " * ACROSS + "|", "|---|---" * ACROSS + "|"]
+    return "\n".join(lines + ["| " + " | ".join(cells[at:at + ACROSS]) + " |" for at in range(0, len(cells), ACROSS)])
+
+
 def main(file, *command):
     rows = json.loads(file.read_text(encoding="utf-8")) if file.exists() else []
     seen, began = {}, time.time()
@@ -73,6 +88,7 @@ def main(file, *command):
     rows += seen.values()
     file.write_text(json.dumps(rows), encoding="utf-8")
     print(table(rows), file=sys.stderr)
+    print(short_table(rows), file=sys.stderr)
     print(f"this run: {(time.time() - began) / 60:.0f} minutes by the clock, {len(os.sched_getaffinity(0))} processors, status {child.returncode}", file=sys.stderr)
     return child.returncode if child.returncode >= 0 else 1
 
