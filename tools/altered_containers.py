@@ -1,7 +1,8 @@
 #!/usr/bin/env python3
-"""Compares what `sealer verify` and `sealer unpipe` print for cut and altered containers with the rules, with one worker
-and with several. `unpipe` reads each from a pipe, and writes nothing of one that has a fault. Prints how many answers
-were right.
+"""Compares what `sealer verify`, `sealer unpipe` and `sealer open` print for cut and altered containers with the rules,
+with one worker and with several. `unpipe` reads each from a pipe, and writes nothing of one that has a fault. `open --to`
+reads three of each five, so some of each kind, from a pipe, which it can read only once, and as a file, which it reads
+twice: its output is there, whole, if the container is good, else there is none. Prints how many answers were right.
 
     altered_containers.py [--self-check]
 
@@ -33,6 +34,8 @@ sealer = os.path.abspath(os.environ.get("SEALER", os.path.join(tools, "../crates
 key = bytes(range(32))
 # Bytes of containers in a folder at a time.
 FOLDER = 1 << 26
+# How many workers there are, in turn.
+WORKERS = (1, 4, 16)
 
 SHORT, MAGIC, VERSION = "header cut short", "not a sealed file", "unknown version"
 EXPONENT, ANOTHER_KEY, LENGTH = "unknown chunk size", "sealed under another key", "wrong length"
@@ -193,30 +196,67 @@ def reader_differs(name, container, answer):
     return differs(f"open_container.py of {name}", found, answer)
 
 
-def line_of(name, answer):
-    return f"failed {name}: {answer}" if isinstance(answer, str) else f"good {name} bytes {answer}"
+def line_of(word, name, answer):
+    return f"failed {name}: {answer}" if isinstance(answer, str) else f"{word} {name} bytes {answer}"
 
 
 def stream_differs(at, name, container, answer):
     """Whether `unpipe` answers otherwise to a pipe that gives the container, or writes what it mustn't."""
-    workers = (1, 4, 16)[at % 3]
+    workers = WORKERS[at % 3]
     words = [sealer, "unpipe", "--key", "key", "--workers", str(workers)]
     ran = subprocess.run(words, input=container, capture_output=True, check=False)
     is_good = isinstance(answer, int)
-    line = f"opened - bytes {answer}\n" if is_good else f"failed -: {answer}\n"
     found = (ran.returncode, ran.stderr.decode(errors="replace"), len(ran.stdout), any(ran.stdout))
-    wanted = (int(not is_good), line, answer if is_good else 0, False)
+    wanted = (int(not is_good), line_of("opened", "-", answer) + "\n", answer if is_good else 0, False)
     return differs(f"unpipe of {name}, {workers} workers: status, line, bytes, others than 0", found, wanted)
 
 
+def is_opened(at):
+    """Whether `open` gets the container of this place in its group: all of them would take more than twice the time."""
+    return at % 5 < 3
+
+
+def taken(name):
+    """How many bytes an output has, and whether others than 0 are among them, or None if it isn't there. Removes it."""
+    if not os.path.lexists(name):
+        return None
+    with open(name, "rb") as file:
+        plain = file.read()
+    os.remove(name)
+    return len(plain), any(plain)
+
+
+def opens_differ(at, name, container, answer):
+    """How many answers of `open` are wrong, to a pipe that gives the container and to a file that holds it, or leave
+    another output."""
+    if not is_opened(at):
+        return 0
+    bad, source, output = 0, f"in-{at}", f"out-{at}"
+    with open(source, "wb") as file:
+        file.write(container)
+    is_good = isinstance(answer, int)
+    for turn, named, given in ((1, "-", {"input": container}), (2, source, {"stdin": subprocess.DEVNULL})):
+        # other workers than those of `unpipe`, and of the other run
+        workers = WORKERS[(at + turn) % 3]
+        words = [sealer, "open", "--key", "key", "--workers", str(workers), "--to", output, named]
+        ran = subprocess.run(words, capture_output=True, check=False, **given)
+        found = (ran.returncode, ran.stdout.decode(errors="replace"), ran.stderr.decode(errors="replace"), taken(output))
+        wanted = (int(not is_good), line_of("opened", named, answer) + "\n", "", (answer, False) if is_good else None)
+        how = "from a pipe" if named == "-" else "as a file"
+        bad += differs(f"open of {name} {how}, {workers} workers: status, line, faults, output", found, wanted)
+    os.remove(source)
+    return bad
+
+
 def streams_differ(containers):
-    """How many answers of `unpipe` are wrong, with as many runs side by side as there are processors."""
+    """How many answers of `unpipe` and `open` are wrong, with as many runs side by side as there are processors."""
     folder = os.getcwd()
     with tempfile.TemporaryDirectory() as room, concurrent.futures.ThreadPoolExecutor(len(os.sched_getaffinity(0))) as pool:
         os.chdir(room)
         with open("key", "w", encoding="ascii") as file:
             file.write(key.hex())
-        bad = sum(pool.map(lambda row: stream_differs(row[0], *row[1]), enumerate(containers)))
+        bad = sum(pool.map(lambda row: stream_differs(row[0], *row[1]) + opens_differ(row[0], *row[1]), enumerate(containers)))
+        bad += differs("files left by open", sorted(os.listdir(".")), ["key"])
         os.chdir(folder)
     return bad
 
@@ -231,9 +271,9 @@ def program_differs(group):
             with open(os.path.join(folder, name), "wb") as file:
                 file.write(container)
         names = [name for name, _, _ in group]
-        lines = [line_of(name, answer) for name, _, answer in group]
+        lines = [line_of("good", name, answer) for name, _, answer in group]
         whole = (int(any(line.startswith("failed") for line in lines)), "", len(lines))
-        for workers in (1, 4, 16):
+        for workers in WORKERS:
             words = [sealer, "verify", "--key", "key", "--workers", str(workers), *names]
             ran = subprocess.run(words, cwd=folder, capture_output=True, text=True, check=False)
             found = ran.stdout.splitlines()
@@ -255,10 +295,13 @@ def main():
     if sys.argv[1:] == ["--self-check"]:
         print(f"altered_containers: {count} answers of open_container.py as they should be")
         return
-    bad = sum(program_differs(group) + streams_differ(group) for kind in kinds for group in groups(kind()))
+    bad = count = 0
+    for group in (group for kind in kinds for group in groups(kind())):
+        bad += program_differs(group) + streams_differ(group)
+        count += 4 * len(group) + 2 * sum(map(is_opened, range(len(group))))
     if bad:
         sys.exit(1)
-    print(f"altered_containers: {4 * count} answers as they should be")
+    print(f"altered_containers: {count} answers as they should be")
 
 
 if __name__ == "__main__":

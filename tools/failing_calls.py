@@ -12,14 +12,15 @@ by a kill before it was unlinked, or where that failed.
 
 A FILE is exchanged in place between the two readings of `open` and `unpipe`, which a SIGSTOP holds at their second lseek: by another
 container, by a shorter and a longer one, and with a byte changed. Then the line is `changed while it was opened`, `open` leaves no output,
-and what `unpipe` wrote begins the first plaintext. Another file of its name changes nothing.
+and what `unpipe` wrote begins the first plaintext, with none of the chunk that differs: it is nothing if the header does. Another file of its
+name changes nothing. FILE is of version 1, and then of version 2 with a label, which tools/seal_container.py makes.
 
 After an error the status and the text are of docs/MANUAL.md, and fit the lines. An output is whole or absent; it is absent if its line says
 that it failed, unless its removal failed. No input is altered, and no other file is left. After a kill each output with a line is whole, and
 the same `open` with `--skip-existing` opens the rest.
 
-Prints 'N failing calls as they should be', or what differs. Needs strace: without it it says so and exits with status 0, and under CI it
-fails. The program is crates/sealer/out/sealer, or $SEALER.
+Prints 'N failing calls as they should be', or what differs. Needs strace, and Python's package `cryptography`: without one of them it says so
+and exits with status 0, and under CI it fails. The program is crates/sealer/out/sealer, or $SEALER.
 """
 import multiprocessing
 import os
@@ -34,6 +35,13 @@ import time
 from collections import Counter
 
 top = os.path.abspath(os.path.join(os.path.dirname(__file__), ".."))
+sys.path.insert(0, f"{top}/tools")
+sys.dont_write_bytecode = True
+try:
+    import seal_container
+except SystemExit:
+    print("failing_calls: skipped, Python's package cryptography isn't there")
+    sys.exit(1 if os.environ.get("CI") else 0)
 sealer = os.path.abspath(os.environ.get("SEALER", f"{top}/crates/sealer/out/sealer"))
 key = f"{top}/examples/key"
 # Seconds after which a run hangs, and faults of one way after which it ends.
@@ -255,13 +263,24 @@ def worked(asked):
     return way.count, way.bad, way.shown, way.empty
 
 
-def exchanges(first, others):
-    """What a FILE becomes between its two readings, by name."""
+def exchanges(first, others, header, chunk):
+    """What a FILE becomes between its two readings, by name. Its header and its sealed chunks have these lengths."""
     changed = lambda at: first[:at] + bytes([first[at] ^ 1]) + first[at + 1:]
     rows = {**others, "nothing": b"", "more bytes": first + bytes(20)}
-    rows.update({f"the first {n} bytes": first[:n] for n in (23, 24, 24 + 2 * 65_552, len(first) - 1)})
-    rows.update({f"byte {at} changed": changed(at) for at in (0, 8, 12, 23, 24, 24 + 65_551, 24 + 3 * 65_552, len(first) - 1)})
+    cuts = (header - 1, header, header + chunk - 1, header + 2 * chunk, header + 20 * chunk, len(first) - 1)
+    rows.update({f"the first {n} bytes": first[:n] for n in cuts})
+    # In version 2 byte 24 is the label's length, and the last byte of the header is the label's last.
+    places = (0, 8, 12, 16, 24, header - 1, header, header + chunk - 1, header + 3 * chunk, header + 24 * chunk, len(first) - 1)
+    rows.update({f"byte {at} changed": changed(at) for at in places})
     return rows
+
+
+def is_beginning(plain, first, becomes, header, chunk):
+    """Whether what was written of a FILE that became other bytes is a beginning of the first plaintext, of chunks before the first that differs.
+    It is nothing if the header differs."""
+    chunks = -(-len(plain) // (chunk - 16))
+    same = not plain or becomes.startswith(first[:header + chunks * chunk])
+    return same and PLAIN["long"].startswith(plain) and plain != PLAIN["long"]
 
 
 def held(words, becomes, is_replaced):
@@ -287,14 +306,14 @@ def held(words, becomes, is_replaced):
     return run.returncode if stopped else "never held", read("plain"), texts
 
 
-def exchanged(first, others):
-    """FILEs that are exchanged between the two readings, also by other containers."""
+def exchanged(first, others, header, chunk):
+    """FILEs that are exchanged between the two readings, also by other containers. Header and sealed chunks have these lengths."""
     count, bad = 0, []
     whole = PLAIN["long"]
     for workers in ("1", "2"):
         for command in ("open", "unpipe"):
             words = [command, "--key", key, "--workers", workers, "long.stm"]
-            rows = {"the same": first, "another file": next(iter(others.values())), **exchanges(first, others)}
+            rows = {"the same": first, "another file": next(iter(others.values())), **exchanges(first, others, header, chunk)}
             for what, becomes in rows.items():
                 count += 1
                 for name in os.listdir("."):
@@ -311,10 +330,10 @@ def exchanged(first, others):
                     right = (status, lines, plain) == (0, [f"opened long.stm bytes {len(whole)}"], whole)
                 else:
                     right = (status, lines, left) == (1, ["failed long.stm: changed while it was opened"], [])
-                    right = right and whole.startswith(plain) and plain != whole
+                    right = right and is_beginning(plain, first, becomes, header, chunk)
                 if texts or not right or read("long.stm") != becomes:
                     told = f"status {status}, {lines} {texts}, {len(plain)} bytes, leaves {left}"
-                    bad.append(f"{command} by {workers}, {what} at the second reading: {told}")
+                    bad.append(f"{command} by {workers}, header of {header} bytes, {what} at the second reading: {told}")
     return count, bad
 
 
@@ -432,9 +451,13 @@ def main():
         shown_count, shown_bad = under_progress(given_again, ledger)
         count += shown_count
         bad += shown_bad
-        exchanged_count, exchanged_bad = exchanged(given["long.stm"], others)
-        count += exchanged_count
-        bad += exchanged_bad
+        # of version 2: a label of seven bytes, and two numbers of another device
+        secret, shape = bytes.fromhex(read(key).decode()), {"exponent": 12, "label": b"db dump"}
+        second, next_one = (seal_container.sealed(secret, 2, number, PLAIN["long"], **shape) for number in (0, 1))
+        for exchanging in ((given["long.stm"], others, 24, 65_552), (second, {"another container": next_one}, 32, 4_112)):
+            exchanged_count, exchanged_bad = exchanged(*exchanging)
+            count += exchanged_count
+            bad += exchanged_bad
         damaged = given["long.stm"][:-1] + bytes([given["long.stm"][-1] ^ 1])
         streams = {"long.stm": given["long.stm"], "damaged.stm": damaged, "large.stm": sealed("large", "another ledger", "--exponent", "20")}
         os.chdir("/")
