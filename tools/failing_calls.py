@@ -277,10 +277,10 @@ def exchanges(first, others, header, chunk):
 
 def is_beginning(plain, first, becomes, header, chunk):
     """Whether what was written of a FILE that became other bytes is a beginning of the first plaintext, of chunks before the first that differs.
-    It is nothing if the header differs."""
-    chunks = -(-len(plain) // (chunk - 16))
-    same = not plain or becomes.startswith(first[:header + chunks * chunk])
-    return same and PLAIN["long"].startswith(plain) and plain != PLAIN["long"]
+    A chunk that is the last of either differs. It is nothing if the header does."""
+    end = header + -(-len(plain) // (chunk - 16)) * chunk
+    same = not plain or end < min(len(first), len(becomes)) and becomes.startswith(first[:end])
+    return same and PLAIN["long"].startswith(plain)
 
 
 def held(words, becomes, is_replaced):

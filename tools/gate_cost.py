@@ -4,8 +4,8 @@
 Runs a command (by default .ci/run), looks at each process below it once a second, and adds what it saw to FILE. So a gate that took several
 runs, each over what the ones before kept, gives one table. Then it prints a table. For each crate that has the
 processor seconds of its proof, its tests, and its edits in must-fail/, with their number; the first edit proves the crate from nothing. It
-also has the most memory of one check. Processes that end within a second can be missed. Last it prints the table of docs/DEVELOPING.md:
-proof, tests and edits of the dearest crates.
+also has the most memory of one check. Processes that end within a second can be missed. The edits whose turn it is count among those of their
+crate. Last it prints the table of docs/DEVELOPING.md: proof, tests and edits of the dearest crates.
 """
 import collections
 import json
@@ -20,7 +20,7 @@ KINDS = ("proof", "tests", "edits", "other")
 # Crates below this many processor seconds come in one row.
 LEAST = 40
 # How many crates the table of docs/DEVELOPING.md has in a row, and in how many rows.
-ACROSS, DOWN = 4, 5
+ACROSS, DOWN = 5, 3
 
 
 def looked(leader, seen):
@@ -73,7 +73,7 @@ def short_table(rows):
         crates[crate][kind] += seconds
     crates.pop("others", None)
     dearest = sorted(crates, key=lambda it: -sum(crates[it].values()))[:ACROSS * DOWN]
-    cells = [f"`{it}` | " + " + ".join(f"{crates[it][kind]:.0f}" for kind in KINDS[:3] if crates[it][kind] >= 1) for it in dearest]
+    cells = [f"`{it}` | " + ", ".join(f"{crates[it][kind]:.0f}" for kind in KINDS[:3]) for it in dearest]
     lines = ["| crate | s " * ACROSS + "|", "|---|---" * ACROSS + "|"]
     return "\n".join(lines + ["| " + " | ".join(cells[at:at + ACROSS]) + " |" for at in range(0, len(cells), ACROSS)])
 

@@ -2825,9 +2825,9 @@ sealed files/long file 2 bytes 16773097' ''
 is spool-sealed-lengths test "$(stat -c %s files/fits.stm files/long.stm | tr '\n' ' ')" = '16777216 16777217 '
 unpiped --spool files/spool < <(cat files/fits.stm)
 unpipes spool-is-not-needed 'opened - bytes 16773096' files/fits
-# Lengths about a block of the spool's memory, 256 KiB, and one of many blocks and a file; what comes in small pieces is kept alike.
+# Lengths about a block of the spool's memory, 256 KiB, about all of it, and beyond; written in pieces of either length they are kept alike.
 if has cryptography; then
-    for length in 262143 262144 262145 786439 41943040; do
+    for length in 262143 262144 262145 786439 16777215 16777216 16777217 41943040; do
         yes plaintext | head -c $((length - 24 - 16 * ((length - 24 + 65551) / 65552))) > files/spooled
         python3 "$here/tools/seal_container.py" "$key" 1 3 files/spooled files/spooled.stm
         is "spool-of-$length-is-as-long" test "$(stat -c %s files/spooled.stm)" = $length

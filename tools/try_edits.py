@@ -159,7 +159,7 @@ def outcomes(said, names):
             found[f"{refused[1]}/{refused[2]}"] = f"{refused[3]} {refused[4]}"
         elif other:
             wrong[f"{other[1]}/{other[2]}"] = other[3]
-    missed = {name: f"not tried: {said.strip()[-300:]}" for name in names if name not in found and name not in wrong}
+    missed = {name: f"not tried: {said.strip()[-300:]}".strip() for name in names if name not in found and name not in wrong}
     return {it: found[it] for it in names if it in found}, {it: wrong[it] for it in names if it in wrong} | missed
 
 
@@ -213,9 +213,11 @@ def give_back():
 
 
 def main(words):
+    if words and words[0].startswith("-") and words != ["--lend"] and (words[0] != "--take" or len(words) != 2):
+        sys.exit(__doc__)
     edits, record, failed = Edits(), read_record(), []
     bad, waits = stale(edits, record)
-    wanted = words if words and not words[0].startswith("--") else []
+    wanted = words if words and not words[0].startswith("-") else []
     today = datetime.date.today().isoformat()
     if wanted:
         names = [name for name in edits.sums if name in wanted or name.split("/")[0] in wanted or "stale" in wanted and name in bad + waits]
@@ -243,8 +245,8 @@ def main(words):
     if words[:1] == ["--take"] and not failed:
         names = sorted(lent())
         give_back()
-        said = Path(words[1]).read_text(encoding="utf-8", errors="replace").replace(f"/{LENT}", "/")
-        found, wrong = outcomes(said, names)
+        said = Path(words[1]).read_text(encoding="utf-8", errors="replace").splitlines()
+        found, wrong = outcomes("\n".join(it.replace(f"/{LENT}", "/", 1) for it in said if f"/{LENT}" in it), names)
         failed += [f"{name}: {why}" for name, why in wrong.items()] if names else ["no edit had its turn"]
         failed += [f"{name}: refused at {where}, and its line says {record[name][3]}" for name, where in found.items() if record[name][3] not in (UNTRIED[2], where)]
         record.update({name: (today, *edits.sums[name], where) for name, where in found.items()})
