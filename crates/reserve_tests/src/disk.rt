@@ -1,6 +1,6 @@
 //! The two files of a ledger in memory, and a disk that stops.
 use crate::store::{ID, has_taken, reserve};
-use reserve_core::{Fold, Keeper};
+use reserve_core::Keeper;
 use sqlite::{Alter, Connection, FileStore, Files, Leftover, Options};
 use sqlite_disk::{Crash, Disk, Fuse, Memory};
 use std::alloc::Global;
@@ -32,7 +32,7 @@ pub static ALL_LEFT: [Left; 4] = [
 ];
 
 /// Returns a file that doesn't stop.
-pub fn lasting(memory: Memory) -> Stopping {
+fn lasting(memory: Memory) -> Stopping {
     Fuse::new(memory, u64::MAX)
 }
 
@@ -53,16 +53,8 @@ pub fn fused(alloc: Global, which: Which, calls: u64) -> Files<Stopping> {
 pub trait Run: Copy {
     type Answer: Copy;
 
-    /// Returns its result, and what it leaves.
-    fn over<S: Fold>(self, conn: Connection<S>) -> (Self::Answer, Rest<S>);
-}
-
-/// What is left of a connection's store.
-pub enum Rest<S: Fold> {
-    Open(S),
-    Folded(S::Left),
-    /// It was dropped.
-    Nothing,
+    /// Returns its result, and the connection's store, unless it was dropped.
+    fn over<S: Alter + Drop>(self, conn: Connection<S>) -> (Self::Answer, Option<S>);
 }
 
 /// Returns the result of a run with these files, if they open, and the files left, with the log as it is.
@@ -73,8 +65,8 @@ pub fn run_over<D: Disk + Drop, R: Run>(
 ) -> (Option<R::Answer>, Option<Files<D>>) {
     match connect(alloc, files) {
         Ok(conn) => {
-            let (answer, rest) = run.over(conn);
-            (Some(answer), files_of(rest))
+            let (answer, store) = run.over(conn);
+            (Some(answer), files_of(store))
         }
         Err(files) => (None, Some(files)),
     }
@@ -112,11 +104,10 @@ fn few_pages() -> Options {
     options
 }
 
-fn files_of<D: Disk + Drop>(rest: Rest<FileStore<D>>) -> Option<Files<D>> {
-    match rest {
-        Rest::Open(store) => Some(Leftover::Store(store).into_files()),
-        Rest::Folded(files) => Some(files),
-        Rest::Nothing => None,
+fn files_of<D: Disk + Drop>(store: Option<FileStore<D>>) -> Option<Files<D>> {
+    match store {
+        Some(store) => Some(Leftover::Store(store).into_files()),
+        None => None,
     }
 }
 
@@ -140,7 +131,7 @@ fn copies(alloc: Global, log: &Stopping, db: &Stopping) -> Option<Files<Stopping
 }
 
 /// Returns a file with the same bytes that doesn't stop.
-pub fn copy(alloc: Global, file: &Stopping) -> Option<Stopping> {
+fn copy(alloc: Global, file: &Stopping) -> Option<Stopping> {
     let mut memory = Memory::new(alloc);
     match memory.write_at(0, file.inner().bytes()) {
         Ok(()) => Some(lasting(memory)),

@@ -1,11 +1,11 @@
 //! Runs with a disk that stops: from some call on, one of the two files returns only errors. Each call is once the
 //! first to fail.
 use crate::disk::{
-    ALL_LEFT, Left, Rest, Run, Stopping, Which, answer_over, begins_with, found, fused,
-    has_both_or_none, run_over,
+    ALL_LEFT, Left, Run, Stopping, Which, answer_over, begins_with, found, fused, has_both_or_none,
+    run_over,
 };
 use crate::store::{ID, has_taken, keeper, reserve};
-use reserve_core::{Fold, Keeper};
+use reserve_core::Keeper;
 use sqlite::{Alter, Connection, Files};
 use std::alloc::Global;
 
@@ -56,7 +56,7 @@ struct Reserves;
 impl Run for Reserves {
     type Answer = Option<Told>;
 
-    fn over<S: Fold>(self, conn: Connection<S>) -> (Option<Told>, Rest<S>) {
+    fn over<S: Alter + Drop>(self, conn: Connection<S>) -> (Option<Told>, Option<S>) {
         match Keeper::open(conn) {
             Ok(keeper) => {
                 let mut keeper = keeper;
@@ -67,9 +67,9 @@ impl Run for Reserves {
                     }),
                     None => None,
                 };
-                (told, Rest::Open(keeper.release().into_store()))
+                (told, Some(keeper.release().into_store()))
             }
-            Err((_, conn)) => (Some(NOTHING), Rest::Open(conn.into_store())),
+            Err((_, conn)) => (Some(NOTHING), Some(conn.into_store())),
         }
     }
 }
@@ -84,8 +84,8 @@ struct Shows {
 impl Run for Shows {
     type Answer = Option<bool>;
 
-    fn over<S: Fold>(self, conn: Connection<S>) -> (Option<bool>, Rest<S>) {
-        (shows_what_was_told(conn, self.told), Rest::Nothing)
+    fn over<S: Alter + Drop>(self, conn: Connection<S>) -> (Option<bool>, Option<S>) {
+        (shows_what_was_told(conn, self.told), None)
     }
 }
 

@@ -9,7 +9,8 @@ use std::alloc::Global;
 use std::marker::Brand;
 use std::thread::Threads;
 
-/// An input. Its first reading gives some bytes, and each later one others. Going back is a call of a spool.
+/// An input. Its first reading gives some bytes, and each later one the same, or none where a spool is to be read
+/// instead. Going back is a call of a spool.
 #[derive(Drop)]
 pub(crate) struct Input<'a> {
     rest: &'a [u8],
