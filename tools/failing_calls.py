@@ -62,7 +62,7 @@ FAULTS["brk"] = ("retval=0",)
 OTHERS = "execve access arch_prctl set_tid_address set_robust_list rseq prlimit64 getrandom futex rt_sigaction rt_sigprocmask exit exit_group".split()
 # An error of these can't be passed over. A FILE in which the first lseek fails is read once, or kept.
 MUST_SHOW = {call: ("error=EIO", "error=ENOSPC") for call in ("read", "write")}
-# `long` has more than 2 MiB: so it is worth two workers to `open` and `verify`.
+# `long` has more than 2 MiB, so it is worth two workers to `open` and `verify`, and has more than one round.
 PLAIN = {"small": b"".join(b"%d\n" % i for i in range(1, 401)), "long": b"".join(b"%d\n" % i for i in range(1, 320_001))}
 PLAIN["large"] = bytes(range(256)) * (17 << 12)
 NAMES = ["small.stm", "long.stm"]

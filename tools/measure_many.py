@@ -28,7 +28,7 @@ SMALL, MANY = 4, 10_000
 # How many bytes are read and written at a time where only that is timed.
 PIECE = 1 << 16
 # In KiB: the least file for which a lane is started; the bytes for which `verify` and `open` start a worker, and those of a round.
-LANE, SHARE, ROUND = 256, 1024, 2048
+LANE, SHARE, ROUND = 256, 1024, 1024
 STARTER = Path(__file__).resolve().with_name("thread_start.c")
 os.chdir(asked.folder)
 Path("key").write_text("5a" * 32 + "\n", encoding="ascii")

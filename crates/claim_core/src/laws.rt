@@ -15,5 +15,5 @@ pub fn limits()
     ensures depth { MAX_DEPTH ≡ 64 }
     ensures round { ROUND_BYTES ≡ 2 ^ 20 }
     ensures opening { OPENING_BYTES ≡ 2 ^ 18 }
-    ensures crew { CREW_BYTES ≡ 2 ^ 21 }
+    ensures crew { CREW_BYTES ≡ 2 ^ 20 }
 {}

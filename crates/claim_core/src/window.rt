@@ -1,8 +1,9 @@
 //! The number of chunks of a round of a file, if none is asked for.
 //!
 //! The workers that seal a file run until its end, so a round needs no more bytes than a processor's nearer cache
-//! holds. Opening starts workers anew for each round, so with several a round is long. One worker starts none. It is
-//! fastest if a round and the next, which is read after it, stay in that cache.
+//! holds. Opening starts workers anew for each round, so with several a round isn't short; but what is read into longer
+//! ones is no longer near when it is checked. One worker starts none. It is fastest if a round and the next, which is
+//! read after it, stay in that cache.
 ghost use Rattle.std.specs.Prelude.{◌≡◌, ◌<◌, ◌≤◌};
 ghost use Rattle.claim_core.specs.Window.{chunks_in, usual, usual_opening};
 
@@ -15,7 +16,7 @@ pub const ROUND_BYTES: usize = 1 << 20;
 pub const OPENING_BYTES: usize = 1 << 18;
 
 /// The same with several workers.
-pub const CREW_BYTES: usize = 1 << 21;
+pub const CREW_BYTES: usize = 1 << 20;
 
 // As many chunks as `bytes` have. With one worker: at least one, at most `DEFAULT_WINDOW`. With several: at least one
 // each, at most `MAX_WINDOW`.
