@@ -2492,6 +2492,19 @@ for untold in 'closed >&-' 'full > /dev/full'; do
     journaled "stream-line-${untold%% *}" "$whole" "range 6 $number 1 1"
     number=$((number + 1))
 done
+# A read that fails midway: what was written begins the container.
+if command -v strace >/dev/null; then
+    strace -f -qq -o /dev/null -P "$PWD/life/more" -e trace=read -e inject=read:error=EIO:when=3 \
+        "$sealer" pipe --key "$key" --ledger life/stream/other --device 6 --journal life/stream/journal < life/more > life/stream/out 2> err; status=$?; : > out
+    wants stream-read-midway 1 '' 'failed -: read failed'
+    journaled stream-read-midway "$void" 'range 6 0 1 1'
+    if has cryptography; then
+        python3 "$here/tools/seal_container.py" "$key" 6 0 life/more theirs.stm
+        written=$(stat -c %s life/stream/out)
+        is stream-read-midway-begins test "$written" -ge 24 -a "$written" -lt "$(stat -c %s theirs.stm)"
+        is stream-read-midway-container cmp -s life/stream/out <(head -c "$written" theirs.stm)
+    fi
+fi
 # What fails before anything is reserved.
 piped --key life/none < numbers.plain
 wants stream-key-twice 2 '' "begins error: the argument '--key <F>' cannot be used multiple times"
