@@ -4,3 +4,4 @@ pub mod PlaceLemmas
 pub mod AnswerLemmas
 pub mod LawLemmas
 pub mod AppendLemmas
+pub mod SlotLemmas

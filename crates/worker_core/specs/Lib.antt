@@ -5,3 +5,6 @@ pub mod Pieces
 pub mod Answer
 pub mod Parts
 pub mod Rooms
+pub mod Owned
+pub mod Slots
+pub mod Shared

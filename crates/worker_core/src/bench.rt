@@ -42,7 +42,7 @@ impl Model for Bench {
 }
 
 // Returns `count` empty buffers, each with room for `size` bytes.
-fn buffers(alloc: Global, count: u32, size: usize) -> Result<Vec<Vec<u8>>, AllocError>
+pub(crate) fn buffers(alloc: Global, count: u32, size: usize) -> Result<Vec<Vec<u8>>, AllocError>
     ensures count { IfOk result (λ v. vec_len v ≡ count) }
     ensures room { IfOk result (λ v. count ≤ vec_capacity v) }
     ensures empty { IfOk result (λ v. All (λ b. b.items ≡ []) v.items) }

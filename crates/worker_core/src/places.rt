@@ -3,14 +3,19 @@
 //! The places are made once, and serve one round after another. The pieces of all benches are taken by exchanging
 //! buffers, so no byte is copied and no memory allocated.
 ghost use Rattle.std.specs.Prelude.{◌≡◌, ◌≤◌, ◌<◌, [], length, map, All, IfOk, None, option_map, slice_index_or};
-ghost use Rattle.std.specs.Prelude.{vec_len};
+ghost use Rattle.std.specs.Prelude.{◌+◌, vec_len, vec_capacity};
+ghost use Rattle.worker_core.specs.Parts.{room_of};
+ghost use Rattle.worker_core.specs.Slots.{AreSlotsOf};
 ghost use Rattle.worker_core.specs.Pieces.{IsPiece, Covers, all_made, emptied};
 ghost use Rattle.worker_core.specs.Answer.{first_refused};
 ghost use Rattle.worker_core.specs.Rooms.{shown, HasRoom};
 
 use crate::bench::Bench;
+use crate::filling::clear_slots;
 use crate::piece::Piece;
 use crate::round::Round;
+use crate::slots::Slot;
+use counted_slot::Counted;
 use std::alloc::{AllocError, Global};
 use std::marker::Model;
 
@@ -88,6 +93,32 @@ impl Places {
         for i in 0..benches.len() {
             benches[i].put_all(&mut self.pieces);
         }
+    }
+
+    // Takes the pieces of a round from its slots, and makes those that are missing. No slot is left, and the buffers that
+    // were in the places become spare.
+    pub(crate) fn take_slots(
+        &mut self,
+        round: &Round,
+        slots: &mut Vec<Counted<Slot>>,
+        spare: &mut Vec<Vec<u8>>,
+    )
+        requires slots { AreSlotsOf self.old.size round.now.values slots.old.items }
+        requires room { length round.now.values ≤ self.old.room }
+        requires fits { room_of round.now.task round.now.size ≤ self.old.size }
+        requires empty { All (λ buffer. buffer.items ≡ []) spare.old.items }
+        requires each { All (λ buffer. self.old.size ≤ vec_capacity buffer) spare.old.items }
+        requires list { vec_len spare.old + length round.now.values ≤ vec_capacity spare.old }
+        ensures values { self.new.values ≡ round.now.values }
+        ensures room { self.new.room ≡ self.old.room }
+        ensures size { self.new.size ≡ self.old.size }
+        ensures empty { All (λ buffer. buffer.items ≡ []) spare.new.items }
+        ensures each { All (λ buffer. self.old.size ≤ vec_capacity buffer) spare.new.items }
+        ensures count { vec_len spare.new ≡ vec_len spare.old + length round.now.values }
+        ensures list { vec_capacity spare.old ≤ vec_capacity spare.new }
+    {
+        clear_slots(slots, round, &mut self.pieces, spare, self.size);
+        self.count = round.count();
     }
 
     /// Returns how many places are taken: one for each piece of the round that was taken last.

@@ -1,0 +1,284 @@
+//! A crew whose workers last: they are started once, and then make the pieces of one round after another.
+//!
+//! The caller's thread shares a round, does something else, and finishes the round: it makes the pieces that nobody has
+//! drawn, waits until the workers are done with the round, and puts all pieces in their places. A round owns its bytes,
+//! so a worker may be late: the round isn't given back before its last owner is the caller's thread. A worker without a
+//! round looks into its letter box, ever more rarely. Nobody waits as `Wait` means it: each loop ends, after 2^64 looks.
+ghost use Rattle.std.specs.Prelude.{◌≡◌, ◌+◌, ◌<◌, ◌≤◌, [], length, vec_capacity, IfOk, IfSome, OnOk};
+ghost use Rattle.std.specs.Arc.{arc_value};
+ghost use Rattle.std.specs.Thread.{IsSync};
+ghost use Rattle.worker_core.specs.Parts.{room_of};
+
+use crate::bench::buffers;
+use crate::filling::lay_out;
+use crate::letters::LetterBox;
+use crate::owned::OwnedRound;
+use crate::places::Places;
+use crate::resting::{look_again, rest_longer};
+use crate::shared::{Shared, make_drawn};
+use claim_core::{Gate, MAX_WORKERS};
+use std::alloc::{AllocError, Global};
+use std::marker::Model;
+use std::mem;
+use std::sync::Arc;
+use std::sync::atomic::AtomicU64;
+use std::sync::atomic::Ordering::SeqCst;
+use std::thread::{Threads, join_mut};
+use std::time::Clock;
+
+/// The buffers of a crew, between its rounds. Contracts see how many pieces a round can have, how many bytes each, and
+/// how many buffers are spare.
+#[derive(Drop)]
+pub struct LastingCrew {
+    room: u32,
+    size: usize,
+    spare: Vec<Vec<u8>>,
+    hand: Vec<u8>,
+}
+
+impl Model for LastingCrew {
+    ghost use Rattle.std.specs.Prelude.{vec_len};
+    ghost use Rattle.worker_core.specs.Shared.{LastingView, IsLasting};
+
+    ghost Value = { LastingView };
+
+    ghost view = { λ c. record { room = c.room; size = c.size; spare = vec_len c.spare } };
+
+    ghost invariant = { IsLasting };
+}
+
+/// A round that is shared, and not finished. Contracts see the round, and how many bytes of room each piece has.
+#[derive(Drop)]
+pub struct Sharing<'a> {
+    shared: Arc<Shared<'a>, Global>,
+}
+
+impl<'a> Model for Sharing<'a> {
+    ghost use Rattle.std.specs.Arc.{arc_value};
+    ghost use Rattle.worker_core.specs.Shared.{SharingView};
+
+    ghost Value = { SharingView };
+
+    ghost view = { λ s. record { owned = (arc_value s.shared).owned; size = (arc_value s.shared).size } };
+}
+
+// Looks into the letter box, and makes pieces of the rounds that come, until the crew ends.
+fn serve<R: Clock, G: Gate>(
+    rt: &R,
+    letters: &LetterBox,
+    worker: u32,
+    hand: Vec<u8>,
+    ended: &AtomicU64,
+    gate: &G,
+)
+    requires { hand.items ≡ [] }
+{
+    let mut hand = hand;
+    let mut looks = 0;
+    for _ in 0..u64::MAX {
+        if let Some(shared) = letters.take() {
+            hand = make_drawn(&shared, worker, gate, hand);
+            looks = 0;
+        } else if ended.load(SeqCst) != 0 {
+            return;
+        } else {
+            looks = rest_longer(rt, looks);
+        }
+    }
+}
+
+// Runs the chore, and a worker for each letter box.
+#[cycle(beside_workers)]
+fn beside_workers<R: Threads + Clock + Sync, G: Gate + Sync, C: FnMut() -> A, A>(
+    rt: &R,
+    alloc: Global,
+    boxes: &[LetterBox],
+    ended: &AtomicU64,
+    size: usize,
+    gate: &G,
+    chore: &mut C,
+) -> A
+    requires boxes { length boxes.now < MAX_WORKERS }
+    requires chore { C.pre chore.old }
+    ensures { C.step chore.old result chore.new }
+{
+    let others = boxes.len();
+    if others == 0 {
+        let done = chore();
+        ended.store(1, SeqCst);
+        return done;
+    }
+    let (front, last) = boxes.split_at(others - 1);
+    match Vec::with_capacity(alloc, size) {
+        Ok(hand) => beside_worker(rt, alloc, front, &last[0], hand, ended, size, gate, chore),
+        Err(AllocError) => beside_workers(rt, alloc, front, ended, size, gate, chore),
+    }
+}
+
+// Runs the chore and the workers of these letter boxes, and beside them one more on a thread of its own.
+#[cycle(beside_workers)]
+fn beside_worker<R: Threads + Clock + Sync, G: Gate + Sync, C: FnMut() -> A, A>(
+    rt: &R,
+    alloc: Global,
+    boxes: &[LetterBox],
+    other: &LetterBox,
+    hand: Vec<u8>,
+    ended: &AtomicU64,
+    size: usize,
+    gate: &G,
+    chore: &mut C,
+) -> A
+    requires boxes { length boxes.now + 1 < MAX_WORKERS }
+    requires hand { hand.items ≡ [] }
+    requires chore { C.pre chore.old }
+    ensures { C.step chore.old result chore.new }
+{
+    let worker = boxes.len() as u32 + 1;
+    let mut hand = Some(hand);
+    let (_, done) = join_mut(
+        rt,
+        &mut ||
+            requires { IsSync R.row × IsSync G.row × IfSome hand (λ buffer. buffer.items ≡ []) }
+        {
+            if let Some(buffer) = hand.take() {
+                serve(rt, other, worker, buffer, ended, gate);
+            }
+        },
+        &mut || -> A
+            requires { IsSync R.row × IsSync G.row × (length boxes.now + 1 < MAX_WORKERS) × C.pre chore.now }
+            ensures { C.step chore.entry.now result chore.exit.now }
+        { beside_workers(rt, alloc, boxes, ended, size, gate, chore) },
+    );
+    done
+}
+
+/// Runs a chore, and beside it a worker for each letter box, each on a thread of its own with a buffer of `size` bytes.
+/// They end once the chore has ended. A worker whose buffer is refused isn't started, and one that can't be started
+/// makes nothing.
+pub fn with_workers<R: Threads + Clock + Sync, G: Gate + Sync, C: FnMut() -> A, A>(
+    rt: &R,
+    alloc: Global,
+    boxes: &[LetterBox],
+    size: usize,
+    gate: &G,
+    chore: &mut C,
+) -> A
+    requires boxes { length boxes.now < MAX_WORKERS }
+    requires chore { C.pre chore.old }
+    ensures { C.step chore.old result chore.new }
+{
+    let ended = AtomicU64::new(0);
+    beside_workers(rt, alloc, boxes, &ended, size, gate, chore)
+}
+
+// What is shared, once this is its last owner. A worker is a piece behind at most, unless its gate holds it.
+fn taken_back(shared: Arc<Shared, Global>) -> Result<Shared, AllocError>
+    ensures { IfOk result (λ s. s ≡ arc_value shared.entry) }
+{
+    let mut shared = shared;
+    let mut looks = 0;
+    'looking: for _ in 0..u64::MAX {
+        match Arc::try_unwrap(shared) {
+            Ok(last) => return Ok(last),
+            Err(others) => shared = others,
+        }
+        looks = look_again(looks);
+    }
+    Err(AllocError)
+}
+
+impl LastingCrew {
+    /// Returns the buffers for rounds of at most `room` pieces of `size` bytes. `AllocError` if memory was refused.
+    pub fn new(alloc: Global, room: u32, size: usize) -> Result<LastingCrew, AllocError>
+        ensures { IfOk result (λ crew. (crew.room ≡ room) × (crew.size ≡ size) × (crew.spare ≡ room)) }
+    {
+        let spare = buffers(alloc, room, size)?;
+        let hand = Vec::with_capacity(alloc, size)?;
+        Ok(LastingCrew {
+            room,
+            size,
+            spare,
+            hand,
+        })
+    }
+
+    /// Returns how many pieces a round can have.
+    pub fn room(&self) -> u32
+        ensures { result ≡ self.now.room }
+    {
+        self.room
+    }
+
+    /// Shares a round with the workers of these letter boxes. `AllocError` if memory was refused; then the round is
+    /// lost.
+    pub fn share<'a>(
+        &mut self,
+        alloc: Global,
+        round: OwnedRound<'a>,
+        boxes: &[LetterBox<'a>],
+    ) -> Result<Sharing<'a>, AllocError>
+        requires count { length round.round.values ≤ self.old.spare }
+        requires size { room_of round.round.task round.round.size ≤ self.old.size }
+        ensures shared { IfOk result (λ sharing. (sharing.owned ≡ round.entry) × (sharing.size ≡ self.old.size)) }
+        ensures spare { OnOk result (self.new.spare + length round.entry.round.values ≡ self.old.spare) }
+        ensures room { self.new.room ≡ self.old.room }
+        ensures size { self.new.size ≡ self.old.size }
+    {
+        let count = round.round().count();
+        let mut slots = Vec::with_capacity(alloc, count as usize)?;
+        lay_out(&mut slots, &mut self.spare, self.size, &round);
+        let shared = Shared::of(round, self.size, slots);
+        let Ok(shared) = Arc::new(alloc, shared) else {
+            return Err(AllocError);
+        };
+        send(&shared, boxes, count);
+        Ok(Sharing { shared })
+    }
+
+    /// Finishes a round, and puts its pieces in their places. Returns the buffer with its bytes. `AllocError` if a
+    /// worker hasn't let go of it after 2^64 looks, which no run lives to see.
+    pub fn finish<'a, G: Gate>(
+        &mut self,
+        alloc: Global,
+        sharing: Sharing<'a>,
+        boxes: &[LetterBox<'a>],
+        gate: &G,
+        places: &mut Places,
+    ) -> Result<Vec<u8>, AllocError>
+        requires size { (sharing.size ≡ self.old.size) × (places.old.size ≡ self.old.size) }
+        requires room { length sharing.owned.round.values ≤ places.old.room }
+        requires spare { self.old.spare + length sharing.owned.round.values ≤ self.old.room }
+        ensures values { OnOk result (places.new.values ≡ sharing.entry.owned.round.values) }
+        ensures bytes { IfOk result (λ bytes. bytes.items ≡ sharing.entry.owned.bytes) }
+        ensures capacity { IfOk result (λ bytes. vec_capacity bytes ≡ sharing.entry.owned.room) }
+        ensures spare { OnOk result (self.new.spare ≡ self.old.spare + length sharing.entry.owned.round.values) }
+        ensures crew { (self.new.room ≡ self.old.room) × (self.new.size ≡ self.old.size) }
+        ensures places { (places.new.room ≡ places.old.room) × (places.new.size ≡ places.old.size) }
+    {
+        let Sharing { shared } = sharing;
+        let mut hand = Vec::new(alloc);
+        mem::swap(&mut hand, &mut self.hand);
+        self.hand = make_drawn(&shared, 0, gate, hand);
+        for letters in boxes {
+            letters.take();
+        }
+        let Shared {
+            owned,
+            size: _,
+            mut slots,
+            next: _,
+        } = taken_back(shared)?;
+        places.take_slots(&owned.round(), &mut slots, &mut self.spare);
+        Ok(owned.into_bytes())
+    }
+}
+
+// Gives the round to as many workers as it has pieces besides the caller's: to those that were started first.
+fn send<'a>(shared: &Arc<Shared<'a>, Global>, boxes: &[LetterBox<'a>], count: u32) {
+    let others = boxes.len().min((count as usize).saturating_sub(1));
+    for letters in &boxes[boxes.len() - others..] {
+        if let Ok(theirs) = Arc::try_clone(shared) {
+            letters.put(theirs);
+        }
+    }
+}
