@@ -10,6 +10,6 @@ chunks_in bytes chunk workers = if workers == 1 then max (min (bytes / chunk) 16
 abbrev pub usual : ℕ → ℕ → ℕ
 usual chunk workers = chunks_in (2 ^ 20) chunk workers
 
--- for opening or checking: as many as 256 KiB has with one worker, and 1 MiB with several
+-- for opening or checking: as many as 256 KiB has
 abbrev pub usual_opening : ℕ → ℕ → ℕ
-usual_opening chunk workers = chunks_in (if workers == 1 then 2 ^ 18 else 2 ^ 20) chunk workers
+usual_opening chunk workers = chunks_in (2 ^ 18) chunk workers

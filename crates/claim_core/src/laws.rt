@@ -2,8 +2,7 @@
 ghost use Rattle.std.specs.Prelude.{◌≡◌, ◌^◌};
 
 use crate::{
-    CREW_BYTES, DEFAULT_WINDOW, MAX_DEPTH, MAX_LANES, MAX_WINDOW, MAX_WORKERS, OPENING_BYTES,
-    ROUND_BYTES,
+    DEFAULT_WINDOW, MAX_DEPTH, MAX_LANES, MAX_WINDOW, MAX_WORKERS, OPENING_BYTES, ROUND_BYTES,
 };
 
 /// The constants are the numbers in the documents.
@@ -15,5 +14,4 @@ pub fn limits()
     ensures depth { MAX_DEPTH ≡ 64 }
     ensures round { ROUND_BYTES ≡ 2 ^ 20 }
     ensures opening { OPENING_BYTES ≡ 2 ^ 18 }
-    ensures crew { CREW_BYTES ≡ 2 ^ 20 }
 {}

@@ -15,7 +15,7 @@ pub mod window;
 
 pub use crate::claims::{Claimant, Claims};
 pub use crate::gate::{Free, Gate};
-pub use crate::window::{CREW_BYTES, OPENING_BYTES, ROUND_BYTES, usual_opening, usual_window};
+pub use crate::window::{OPENING_BYTES, ROUND_BYTES, usual_opening, usual_window};
 
 /// The most workers of one claims table.
 pub const MAX_CLAIMANTS: u32 = 16;

@@ -1,9 +1,7 @@
 //! The number of chunks of a round of a file, if none is asked for.
 //!
-//! The workers that seal a file run until its end, so a round needs no more bytes than a processor's nearer cache
-//! holds. Opening starts workers anew for each round, so with several a round isn't short; but what is read into longer
-//! ones is no longer near when it is checked. One worker starts none. It is fastest if a round and the next, which is
-//! read after it, stay in that cache.
+//! Workers run until the end of a file, so a round needs no more bytes than a processor's nearer cache holds. An opening
+//! is fastest if a round and the next, which is read after it, both stay there.
 ghost use Rattle.std.specs.Prelude.{◌≡◌, ◌<◌, ◌≤◌};
 ghost use Rattle.claim_core.specs.Window.{chunks_in, usual, usual_opening};
 
@@ -12,11 +10,8 @@ use crate::{DEFAULT_WINDOW, MAX_WINDOW, MAX_WORKERS};
 /// Plaintext bytes of a round of a file that is sealed, if no number of chunks is asked for and its limits allow this.
 pub const ROUND_BYTES: usize = 1 << 20;
 
-/// The same for a container that one worker opens or checks.
+/// The same for a container that is opened or checked.
 pub const OPENING_BYTES: usize = 1 << 18;
-
-/// The same with several workers.
-pub const CREW_BYTES: usize = 1 << 20;
 
 // As many chunks as `bytes` have. With one worker: at least one, at most `DEFAULT_WINDOW`. With several: at least one
 // each, at most `MAX_WINDOW`.
@@ -48,8 +43,7 @@ pub fn usual_window(chunk: usize, workers: u32) -> u32
     chunks_in(ROUND_BYTES, chunk, workers)
 }
 
-/// The same for a container that is opened or checked: as many as `OPENING_BYTES` have with one worker, or `CREW_BYTES`
-/// with several, within the same limits.
+/// The same for a container that is opened or checked: as many as `OPENING_BYTES` have, within the same limits.
 pub fn usual_opening(chunk: usize, workers: u32) -> u32
     requires chunk { 0 < chunk }
     requires workers { (0 < workers) × (workers ≤ MAX_WORKERS) }
@@ -57,10 +51,5 @@ pub fn usual_opening(chunk: usize, workers: u32) -> u32
     ensures some { 0 < result }
     ensures most { result ≤ MAX_WINDOW }
 {
-    let bytes = if workers == 1 {
-        OPENING_BYTES
-    } else {
-        CREW_BYTES
-    };
-    chunks_in(bytes, chunk, workers)
+    chunks_in(OPENING_BYTES, chunk, workers)
 }

@@ -22,6 +22,7 @@ use ledger_core::Failed;
 use opening_core::Stopped;
 use std::alloc::Global;
 use std::thread::Threads;
+use std::time::Clock;
 
 /// What a sealed file's name ends in.
 pub const SUFFIX: &str = ".stm";
@@ -109,7 +110,7 @@ fn refusal(fault: FolderFault) -> FileFault
 
 // Opens a file that can be read again: a first reading checks its whole container. Then the output is created, and a
 // second reading writes the plaintext.
-fn open_again<T: Threads + Sync, F: OpeningFolder>(
+fn open_again<T: Threads + Clock + Sync, F: OpeningFolder>(
     rt: &T,
     alloc: Global,
     key: &Key,
@@ -155,7 +156,7 @@ fn open_again<T: Threads + Sync, F: OpeningFolder>(
 }
 
 // Opens a file that can be read only once: its plaintext is in memory until its whole container was checked.
-fn open_once<T: Threads + Sync, F: OpeningFolder>(
+fn open_once<T: Threads + Clock + Sync, F: OpeningFolder>(
     rt: &T,
     alloc: Global,
     key: &Key,
@@ -194,7 +195,7 @@ fn open_once<T: Threads + Sync, F: OpeningFolder>(
 }
 
 // Opens a file that is read, in one of the two ways.
-fn open_read<T: Threads + Sync, F: OpeningFolder>(
+fn open_read<T: Threads + Clock + Sync, F: OpeningFolder>(
     rt: &T,
     alloc: Global,
     key: &Key,
@@ -224,7 +225,7 @@ fn open_read<T: Threads + Sync, F: OpeningFolder>(
 }
 
 // Checks the whole container of one file, then creates its output, writes the plaintext and finishes the output.
-fn open_file<T: Threads + Sync, F: OpeningFolder>(
+fn open_file<T: Threads + Clock + Sync, F: OpeningFolder>(
     rt: &T,
     alloc: Global,
     key: &Key,
@@ -249,7 +250,7 @@ fn open_file<T: Threads + Sync, F: OpeningFolder>(
 }
 
 // Checks the whole container of one file.
-fn verify_file<T: Threads + Sync, F: Folder>(
+fn verify_file<T: Threads + Clock + Sync, F: Folder>(
     rt: &T,
     alloc: Global,
     key: &Key,
@@ -328,7 +329,7 @@ pub fn tell<W: Report>(
 /// checked, and its output isn't created. Returns the exit status: 0 if every file was opened, 1 if one failed, 2 if a
 /// line couldn't be written. The folder is asked to remove an output that couldn't be written whole, or finished.
 pub fn open_all<
-    T: Threads + Sync,
+    T: Threads + Clock + Sync,
     F: OpeningFolder,
     L: Report + Drop,
     E: Report + Drop,
@@ -366,7 +367,7 @@ pub fn open_all<
 /// a second line with what its header says. Returns the exit status: 0 if every file is good, 1 if one failed, 2 if a
 /// line couldn't be written.
 pub fn verify_all<
-    T: Threads + Sync,
+    T: Threads + Clock + Sync,
     F: Folder,
     L: Report + Drop,
     E: Report + Drop,

@@ -18,6 +18,7 @@ use opening_core::{Plaintext, Stopped, write_again};
 use output_core::Output;
 use std::alloc::Global;
 use std::thread::Threads;
+use std::time::Clock;
 use thiserror::Error;
 
 /// Why a folder refused a call.
@@ -206,7 +207,7 @@ pub(crate) fn write_or_give_up<F: OpeningFolder>(
 
 // Writes the plaintext of a container that was checked, by reading it once more, to an output that may hold it. Then
 // finishes the output. On failure the output is given up.
-pub(crate) fn write_again_or_give_up<T: Threads + Sync, F: OpeningFolder, R: Source>(
+pub(crate) fn write_again_or_give_up<T: Threads + Clock + Sync, F: OpeningFolder, R: Source>(
     rt: &T,
     alloc: Global,
     key: &Key,

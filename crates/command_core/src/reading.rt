@@ -15,6 +15,7 @@ use ledger_core::Source;
 use opening_core::{Plaintext, run_check, run_read};
 use std::alloc::Global;
 use std::thread::Threads;
+use std::time::Clock;
 
 // The bytes of a file for each of its workers. One reads about as many in the time that three threads take to start.
 const SHARE: u64 = 1 << 20;
@@ -34,7 +35,7 @@ pub(crate) fn workers_for(bytes: Option<u64>, workers: u32) -> u32
 }
 
 /// Checks the whole container that a reader gives, and its label. Returns its header, and its number of plaintext bytes.
-pub(crate) fn check_labelled<T: Threads + Sync, R: Source>(
+pub(crate) fn check_labelled<T: Threads + Clock + Sync, R: Source>(
     rt: &T,
     alloc: Global,
     key: &Key,
@@ -66,7 +67,7 @@ pub(crate) fn check_labelled<T: Threads + Sync, R: Source>(
 }
 
 /// Returns the plaintext of the container that a reader gives, after all of it was checked, and its label.
-pub(crate) fn read_labelled<T: Threads + Sync, R: Source>(
+pub(crate) fn read_labelled<T: Threads + Clock + Sync, R: Source>(
     rt: &T,
     alloc: Global,
     key: &Key,

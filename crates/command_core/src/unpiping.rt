@@ -19,6 +19,7 @@ use opening_core::write_again;
 use output_core::Output;
 use std::alloc::Global;
 use std::thread::Threads;
+use std::time::Clock;
 
 /// What `unpipe_all` works on.
 #[derive(Clone, Copy, Debug)]
@@ -68,7 +69,7 @@ impl<W: Sink> OpeningStream for W {
 
 // Checks the whole container of a file that is read, and writes its plaintext by reading it again. Returns the stream
 // too.
-fn unpipe_read<T: Threads + Sync, F: Folder, W: OpeningStream + Drop>(
+fn unpipe_read<T: Threads + Clock + Sync, F: Folder, W: OpeningStream + Drop>(
     rt: &T,
     alloc: Global,
     key: &Key,
@@ -111,7 +112,7 @@ fn unpipe_read<T: Threads + Sync, F: Folder, W: OpeningStream + Drop>(
 }
 
 // Opens a file, and unpipes what is read of it. Returns the stream too.
-fn unpipe<T: Threads + Sync, F: Folder, W: OpeningStream + Drop>(
+fn unpipe<T: Threads + Clock + Sync, F: Folder, W: OpeningStream + Drop>(
     rt: &T,
     alloc: Global,
     key: &Key,
@@ -142,7 +143,7 @@ fn unpipe<T: Threads + Sync, F: Folder, W: OpeningStream + Drop>(
 ///
 /// At a fault of the bytes nothing was written. If memory, a read or a write failed after the whole check, or if the
 /// second reading gave other bytes (`changed while it was opened`), what was written had passed the check again.
-pub fn unpipe_all<T: Threads + Sync, F: Folder, W: OpeningStream + Drop, E: Report>(
+pub fn unpipe_all<T: Threads + Clock + Sync, F: Folder, W: OpeningStream + Drop, E: Report>(
     rt: &T,
     alloc: Global,
     key: &Key,

@@ -1,12 +1,11 @@
 -- What one more read adds to what is held.
-use Rattle.std.proofs.Common.{◌≡◌, ℕ, ◌+◌, ◌≤◌, List, ◌++◌, length, take, Option, Result, Ok, Err, IfOk, sym, ap, ◌∙◌, arith, length-take-le, length-append, append_assoc, subst}
+use Rattle.std.proofs.Common.{◌≡◌, ℕ, ◌+◌, ◌≤◌, List, ◌++◌, length, take, Option, Result, Ok, Err, IfOk, sym, ap, ◌∙◌, length-take-le, length-append, append_assoc}
 use Rattle.std.proofs.lemmas.List.{take-append-le, take-take}
-use Rattle.std.proofs.KnownBytes.{Consumes-trans, Consumes-kept}
+use Rattle.std.proofs.KnownBytes.{Consumes-trans}
 use borrow.Rule.Slice.PartMut.{put_mid, post_of}
 use Rattle.std.proofs.Math.Seq.{take-append-add}
 use Rattle.std.specs.Io.{ReadsAtMost}
-use Rattle.io_core.specs.Streams.{Consumes, ReadConsumes, Keeps}
-use Rattle.io_core.specs.Reads.{ConsumesUpTo}
+use Rattle.io_core.specs.Streams.{Consumes, ReadConsumes}
 
 -- n bytes were read into a buffer after the first a
 filled_more : (a k n : ℕ) (xs ys : List ℕ) → a ≤ length xs → n ≤ length ys → take (a + n) (put_mid a k xs ys) ≡ take a xs ++ take n ys

@@ -1,11 +1,11 @@
 -- Inside: what the functions that open in rounds say to each other.
-use Rattle.std.specs.Prelude.{◌≡◌, ◌⊎◌, ℕ, ◌+◌, ◌-◌, ◌*◌, ◌<◌, ◌≤◌, ◌++◌, Bool, true, List, [], ◌∷◌, length, Option}
+use Rattle.std.specs.Prelude.{◌≡◌, ◌⊎◌, ℕ, ◌+◌, ◌-◌, ◌*◌, ◌<◌, ◌≤◌, ◌++◌, Bool, true, List, [], ◌∷◌, length, min, Option}
 use Rattle.std.specs.Prelude.{Some, None, Result, Ok, OnOk, OnErr, IfSome}
 use Rattle.container_core.specs.Chunks.{sealed_chunks}
 use Rattle.container_core.specs.Container.{size_in}
 use Rattle.container_core.specs.declared.fault.OpenFault.{OpenFault}
 use Rattle.container_core.specs.declared.fault.OpenFault.TheVariants as opening_fault
-use Rattle.container_core.specs.Opening.{opening, unsealed_by}
+use Rattle.container_core.specs.Opening.{longest, opening, unsealed_by}
 use Rattle.io_core.specs.Reads.{ConsumesUpTo}
 use Rattle.io_core.specs.Streams.{Appends, AppendsFront, Consumes, IsAtEnd, IsFront, counted}
 use Rattle.worker_core.specs.declared.round.Task.{Task}
@@ -14,7 +14,7 @@ use Rattle.container_core.specs.declared.TheConstants.{TAG}
 use Rattle.worker_core.specs.Parts.{room_of}
 use Rattle.worker_core.specs.Answer.{joined}
 use Rattle.worker_core.specs.Views.{PlacesView}
-use Rattle.worker_core.specs.Crew.{CrewView}
+use Rattle.worker_core.specs.Shared.{LastingView}
 use Rattle.opening_core.specs.ReadAhead.{WindowView}
 use Rattle.opening_core.specs.Engine.{open_read_failed, open_write_failed}
 use Rattle.output_core.specs.Bounds.{Admits, Allows, Bound, Checked}
@@ -52,14 +52,17 @@ pub record HasTurned (left left' : Option (List ℕ)) (failures failures' : Opti
   pub within : OnOk result (length next'.held ≤ upto)
   pub end : OnOk result (length next'.held < upto → IsAtEnd left')
   pub lost : OnErr result (ConsumesUpTo left left' (upto - 1))
-  pub room : next.room ≤ next'.room
+  pub room : OnOk result (next.room ≤ next'.room)
   pub count : failures' ≡ counted (open_read_failed result) failures
 
+-- how many bytes of a body are read at first: a window and one byte more, or up to one byte past the longest container
+abbrev pub most_first : ℕ → List ℕ → ℕ → ℕ
+most_first most header window = min (longest most header + 1 - length header) (window * (size_in header + TAG) + 1)
+
 -- the crew can open `bytes` bytes of a container's body, in chunks of `size` bytes, and put their pieces on the places
-pub record IsReady (task : Task) (size bytes : ℕ) (crew : CrewView) (places : PlacesView) : Type 0 where
-  pub idle : crew.made ≡ []
+pub record IsReady (task : Task) (size bytes : ℕ) (crew : LastingView) (places : PlacesView) : Type 0 where
   pub sizes : (crew.size ≡ room_of task size) × (places.size ≡ room_of task size)
-  pub rooms : crew.room ≡ places.room
+  pub rooms : (crew.room ≡ places.room) × (crew.spare ≡ places.room)
   pub enough : bytes ≤ places.room * (size + TAG)
 
 -- where what follows the header makes it open, what was taken begins the plaintext

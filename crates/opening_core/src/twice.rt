@@ -27,6 +27,7 @@ use io_core::{Failed, Source};
 use output_core::Output;
 use std::alloc::Global;
 use std::thread::Threads;
+use std::time::Clock;
 use worker_core::Task;
 
 /// Why an opening by two readings stopped.
@@ -83,7 +84,7 @@ fn stop_at(fault: OpenFault) -> Stopped
 }
 
 // Writes the plaintext of a container's body, each round while the next is checked. Returns the writer too.
-fn write_body<T: Threads + Sync, R: Source, W: Output + Drop, G: Gate + Sync>(
+fn write_body<T: Threads + Clock + Sync, R: Source, W: Output + Drop, G: Gate + Sync>(
     rt: &T,
     alloc: Global,
     key: &Key,
@@ -136,7 +137,7 @@ fn write_body<T: Threads + Sync, R: Source, W: Output + Drop, G: Gate + Sync>(
 /// each chunk once it was checked again. This holds whatever the reading gives. At `Ok` it is a container with this
 /// header, and its whole plaintext was written. Else what was written is chunks that had passed the check, from the
 /// first on; of a container with another header it is nothing. Returns the writer too.
-pub fn write_again<T: Threads + Sync, R: Source, W: Output + Drop, G: Gate + Sync>(
+pub fn write_again<T: Threads + Clock + Sync, R: Source, W: Output + Drop, G: Gate + Sync>(
     rt: &T,
     alloc: Global,
     key: &Key,
@@ -175,7 +176,7 @@ pub fn write_again<T: Threads + Sync, R: Source, W: Output + Drop, G: Gate + Syn
 /// plaintext's length and the writer. At `Refused` nothing was written. At `Broken` the bytes are a container, memory
 /// was refused or a call failed, and a prefix of the plaintext was written. `Changed` comes only where the two readings
 /// differ.
-pub fn run_open_twice<T: Threads + Sync, S: Readings, W: Output + Drop, G: Gate + Sync>(
+pub fn run_open_twice<T: Threads + Clock + Sync, S: Readings, W: Output + Drop, G: Gate + Sync>(
     rt: &T,
     alloc: Global,
     key: &Key,

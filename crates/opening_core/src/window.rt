@@ -10,6 +10,7 @@ ghost use Rattle.io_core.specs.Streams.{Consumes, IsAtEnd, Keeps, counted};
 use io_core::{Failed, Source};
 use std::alloc::{AllocError, Global};
 use std::marker::Model;
+use std::mem;
 
 // Most bytes by which the buffer grows at once.
 const STEP: usize = 1 << 16;
@@ -147,6 +148,28 @@ impl Window {
     {
         let bytes = Vec::with_capacity(alloc, room)?;
         Ok(Window { bytes, held: 0 })
+    }
+
+    /// Takes the buffer out, with the bytes that are held first. Then the window holds nothing, and has no room.
+    pub(crate) fn take_buffer(&mut self, alloc: Global) -> Vec<u8>
+        ensures held { take (length self.old.held) result.items ≡ self.old.held }
+        ensures long { length self.old.held ≤ vec_len result }
+        ensures room { vec_capacity result ≡ self.old.room }
+    {
+        let mut bytes = Vec::new(alloc);
+        mem::swap(&mut bytes, &mut self.bytes);
+        self.held = 0;
+        bytes
+    }
+
+    /// Gives a buffer back, whose first `held` bytes are held.
+    pub(crate) fn give_buffer(&mut self, bytes: Vec<u8>, held: usize)
+        requires { held ≤ vec_len bytes }
+        ensures held { self.new.held ≡ take held bytes.items }
+        ensures room { self.new.room ≡ vec_capacity bytes }
+    {
+        self.bytes = bytes;
+        self.held = held;
     }
 
     /// Returns the bytes that are held.

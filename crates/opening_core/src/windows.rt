@@ -1,12 +1,13 @@
 //! Opening in rounds: workers open or only check a window of a container. Meanwhile the caller's thread takes the
-//! plaintext of the previous window and reads the next.
+//! plaintext of the previous window and reads the next. The workers are started once, after the first window was read,
+//! and last until the container's end.
 //!
 //! A full window is opened once one more byte was seen after it, so its last chunk isn't the last of all. A wrong
 //! length comes before a chunk that doesn't check. So a container with such a chunk is read to its end, or to one byte
 //! past the longest.
 ghost use Rattle.std.specs.Prelude.{◌≡◌, ◌≢◌, ◌⊎◌, ℕ, ◌+◌, ◌-◌, ◌*◌, ◌^◌, ◌<◌, ◌≤◌, ◌++◌, Bool, true, false, List};
 ghost use Rattle.std.specs.Prelude.{[], length, take, min, slice_index, Ok, Err, IfOk, IfErr, OnOk, OnErr, IfSome};
-ghost use Rattle.std.specs.Prelude.{Some, None};
+ghost use Rattle.std.specs.Prelude.{Option, None, vec_capacity};
 ghost use Rattle.container_core.specs.Chunks.{body_length, chunk_count, container_limit, most_chunk, sealed_chunks};
 ghost use Rattle.container_core.specs.Container.{size_in};
 ghost use Rattle.container_core.specs.Faults.{IsOfBytes};
@@ -20,7 +21,7 @@ ghost use Rattle.opening_core.specs.Engine.{HasHeader, HasReadContainer, OpensTo
 ghost use Rattle.opening_core.specs.Engine.{open_write_failed};
 ghost use Rattle.opening_core.specs.Fronts.{Answers, SaysLength};
 ghost use Rattle.opening_core.specs.Windows.{HasBegun, HasBegunLast, HasGathered, HasSent, HasTaken, HasTurned};
-ghost use Rattle.opening_core.specs.Windows.{IsReady, IsTakingFault, IsTurningFault, MayTake, MayTakeLast, OpensRound};
+ghost use Rattle.opening_core.specs.Windows.{most_first, IsReady, IsTakingFault, IsTurningFault, MayTake, MayTakeLast, OpensRound};
 
 use crate::front::{open_front, refuse};
 use crate::rooms::{Rooms, byte_behind};
@@ -33,8 +34,9 @@ use io_core::{Failed, Source};
 use std::alloc::{AllocError, Global};
 use std::mem;
 use std::thread::Threads;
+use std::time::Clock;
 use worker_core::laws::{pieces_by_number, refused_pieces, rounds_are_checked, rounds_are_opened};
-use worker_core::{Places, Round, Task};
+use worker_core::{LetterBox, OwnedRound, Places, Task, letter_boxes, with_workers};
 
 // How many bytes `chunks` sealed chunks have under a header, where none of them is the last.
 fn sealed_bytes(chunks: u32, header: &Header) -> usize
@@ -128,9 +130,7 @@ fn begin<R: Source>(
     reader: &mut R,
     most: usize,
     window: u32,
-    workers: u32,
 ) -> Result<Rooms, OpenFault>
-    requires workers { (0 < workers) × (workers ≤ MAX_WORKERS) }
     requires window { (0 < window) × (window ≤ MAX_WINDOW) }
     ensures held { IfOk result (λ rooms. Consumes (R.left reader.old) (R.left reader.new) rooms.current.held) }
     ensures within { IfOk result (λ rooms. length rooms.current.held
@@ -145,6 +145,7 @@ fn begin<R: Source>(
     ensures ready { IfOk result (λ rooms. IsReady task (size_in header.now)
         (min (window * (size_in header.now + TAG)) (length rooms.current.held)) rooms.crew rooms.places) }
     ensures places { IfOk result (λ rooms. rooms.places.values ≡ []) }
+    ensures some { IfOk result (λ rooms. 0 < rooms.crew.room) }
 {
     let room = sealed_bytes(window, header) + 1;
     let Ok(mut current) = Window::new(alloc, room) else {
@@ -154,47 +155,48 @@ fn begin<R: Source>(
         return Err(OpenFault::Read);
     }
     let pieces = pieces_of(current.held().len(), header, window);
-    match Rooms::new(alloc, task, header.chunk(), current, pieces, workers) {
+    match Rooms::new(alloc, task, header.chunk(), current, pieces) {
         Ok(rooms) => Ok(rooms),
         Err(AllocError) => Err(OpenFault::OutOfMemory),
     }
 }
 
-// The full round that a window holds, where a byte was seen after it.
+// The full round with which a buffer begins, where a byte was seen after it.
 fn full_round<'a>(
     task: Task,
     key: &'a Key,
     header: &'a Header,
     first: u32,
     chunks: u32,
-    window: &'a Window,
-) -> Round<'a>
+    bytes: Vec<u8>,
+) -> OwnedRound<'a>
     requires task { task ≢ Task.Sealing }
     requires chunks { (0 < chunks) × (chunks ≤ MAX_WINDOW) }
     requires numbers { first + chunks ≤ 2 ^ 32 }
-    requires full { chunks * (size_in header.now + TAG) < length window.now.held }
-    ensures round { result ≡ round_of task key.now header.now first false
-        (take (chunks * (size_in header.now + TAG)) window.now.held) }
-    ensures count { length result.values ≡ chunks }
+    requires full { chunks * (size_in header.now + TAG) < length bytes.items }
+    ensures round { result.round ≡ round_of task key.now header.now first false
+        (take (chunks * (size_in header.now + TAG)) bytes.items) }
+    ensures bytes { (result.bytes ≡ bytes.items) × (result.room ≡ vec_capacity bytes) }
+    ensures count { length result.round.values ≡ chunks }
 {
     pieces_by_number();
     chunks_of_two_parts();
-    let (bytes, _) = window.held().split_at(sealed_bytes(chunks, header));
     let cut = Cut::of(header, plain_bytes(chunks, header));
-    Round::new(task, key, header, first, false, cut, bytes)
+    let length = sealed_bytes(chunks, header);
+    OwnedRound::new(task, key, header, first, false, cut, bytes, length)
 }
 
 // Opens a full round. Meanwhile the plaintext of the previous one is taken, and the next one is read after its first
 // byte, which was seen before.
-fn open_full<T: Threads + Sync, R: Source, G: Gate + Sync, O: Taking>(
-    rt: &T,
+fn open_full<'a, R: Source, G: Gate, O: Taking>(
     alloc: Global,
     task: Task,
-    key: &Key,
-    header: &Header,
+    key: &'a Key,
+    header: &'a Header,
     first: u32,
     chunks: u32,
     rooms: &mut Rooms,
+    boxes: &[LetterBox<'a>],
     reader: &mut R,
     out: &mut O,
     upto: usize,
@@ -217,9 +219,9 @@ fn open_full<T: Threads + Sync, R: Source, G: Gate + Sync, O: Taking>(
     ensures gathered { HasGathered (O.bytes out.old) (O.bytes out.new) (O.failures out.old) (O.failures out.new)
         (O.bound out.old) (O.bound out.new) rooms.old.places.values result }
     ensures fault { IfErr result (IsTurningFault O.writes) }
-    ensures ready { IsReady task (size_in header.now) (chunks * (size_in header.now + TAG))
-        rooms.new.crew rooms.new.places }
-    ensures room { rooms.new.next ≡ rooms.old.current }
+    ensures ready { OnOk result (IsReady task (size_in header.now) (chunks * (size_in header.now + TAG))
+        rooms.new.crew rooms.new.places) }
+    ensures room { OnOk result (rooms.new.next ≡ rooms.old.current) }
 {
     let Rooms {
         current,
@@ -228,35 +230,36 @@ fn open_full<T: Threads + Sync, R: Source, G: Gate + Sync, O: Taking>(
         places,
     } = rooms;
     let ahead = byte_behind(current, sealed_bytes(chunks, header));
-    let round = full_round(task, key, header, first, chunks, current);
-    let waiting = &mut *places;
-    let behind = &mut *next;
-    let mut chore = || -> Result<(), OpenFault>
-        requires upto { (0 < upto) × (upto ≤ behind.now.room) }
-        requires may { Admits (O.bound out.now) (O.bytes out.now) (joined waiting.now.values) }
-        ensures turned { HasTurned (R.left reader.entry.now) (R.left reader.exit.now) (R.failures reader.entry.now)
-            (R.failures reader.exit.now) behind.entry.now behind.exit.now ahead upto result }
-        ensures gathered { HasGathered (O.bytes out.entry.now) (O.bytes out.exit.now) (O.failures out.entry.now)
-            (O.failures out.exit.now) (O.bound out.entry.now) (O.bound out.exit.now) waiting.entry.now.values result }
-        ensures fault { IfErr result (IsTurningFault O.writes) }
-        ensures places { (waiting.exit.now.room ≡ waiting.entry.now.room)
-            × (waiting.exit.now.size ≡ waiting.entry.now.size) }
-    { turn(alloc, reader, out, waiting, behind, ahead, upto) };
-    let turned = crew.make(rt, alloc, &round, gate, &mut chore);
-    crew.put(&round, places);
+    let held = current.held().len();
+    let round = full_round(task, key, header, first, chunks, current.take_buffer(alloc));
+    let sharing = match crew.share(alloc, round, boxes) {
+        Ok(sharing) => sharing,
+        Err(AllocError) => return Err(OpenFault::OutOfMemory),
+    };
+    let turned = turn(alloc, reader, out, places, next, ahead, upto);
+    // Also after a fault: a gate may wait for the other pieces.
+    let finished = crew.finish(alloc, sharing, boxes, gate, places);
+    match turned {
+        Ok(()) => {}
+        Err(fault) => return Err(fault),
+    }
+    match finished {
+        Ok(bytes) => current.give_buffer(bytes, held),
+        Err(AllocError) => return Err(OpenFault::OutOfMemory),
+    }
     mem::swap(current, next);
-    turned
+    Ok(())
 }
 
 // Opens the last round, and takes the plaintext of the previous one and of this one.
-fn open_last<T: Threads + Sync, G: Gate + Sync, O: Taking>(
-    rt: &T,
+fn open_last<'a, G: Gate, O: Taking>(
     alloc: Global,
     task: Task,
-    key: &Key,
-    header: &Header,
+    key: &'a Key,
+    header: &'a Header,
     first: u32,
     rooms: &mut Rooms,
+    boxes: &[LetterBox<'a>],
     out: &mut O,
     gate: &G,
 ) -> Result<(), OpenFault>
@@ -287,25 +290,26 @@ fn open_last<T: Threads + Sync, G: Gate + Sync, O: Taking>(
         crew,
         places,
     } = rooms;
-    let bytes = current.held();
-    let Ok(cut) = Cut::of_body(header, bytes.len() as u64) else {
+    let length = current.held().len();
+    let Ok(cut) = Cut::of_body(header, length as u64) else {
         unreachable!();
     };
-    let round = Round::new(task, key, header, first, true, cut, bytes);
-    let waiting = &mut *places;
-    let mut chore = || -> Result<(), OpenFault>
-        requires may { Admits (O.bound out.now) (O.bytes out.now) (joined waiting.now.values) }
-        ensures gathered { HasGathered (O.bytes out.entry.now) (O.bytes out.exit.now) (O.failures out.entry.now)
-            (O.failures out.exit.now) (O.bound out.entry.now) (O.bound out.exit.now) waiting.entry.now.values result }
-        ensures fault { IfErr result (IsTakingFault O.writes) }
-        ensures places { (waiting.exit.now.room ≡ waiting.entry.now.room)
-            × (waiting.exit.now.size ≡ waiting.entry.now.size) }
-    { out.take(alloc, waiting) };
-    match crew.make(rt, alloc, &round, gate, &mut chore) {
+    let bytes = current.take_buffer(alloc);
+    let round = OwnedRound::new(task, key, header, first, true, cut, bytes, length);
+    let sharing = match crew.share(alloc, round, boxes) {
+        Ok(sharing) => sharing,
+        Err(AllocError) => return Err(OpenFault::OutOfMemory),
+    };
+    let taken = out.take(alloc, places);
+    let finished = crew.finish(alloc, sharing, boxes, gate, places);
+    match taken {
         Ok(()) => {}
         Err(fault) => return Err(fault),
     }
-    crew.put(&round, places);
+    match finished {
+        Ok(_) => {}
+        Err(AllocError) => return Err(OpenFault::OutOfMemory),
+    }
     match checked(places, task, first) {
         Ok(()) => {}
         Err(fault) => return Err(fault),
@@ -316,14 +320,95 @@ fn open_last<T: Threads + Sync, G: Gate + Sync, O: Taking>(
     }
 }
 
+// Opens a container's body, of which the first window was read, in rounds, and has its plaintext taken where it isn't
+// only checked. Returns how many bytes the plaintext has. Clauses are of any input that began with that window.
+fn open_begun<'a, R: Source, G: Gate, O: Taking>(
+    alloc: Global,
+    task: Task,
+    key: &'a Key,
+    header: &'a Header,
+    rooms: &mut Rooms,
+    boxes: &[LetterBox<'a>],
+    reader: &mut R,
+    max_bytes: u64,
+    window: u32,
+    out: &mut O,
+    gate: &G,
+) -> Result<u64, OpenFault>
+    requires task { task ≢ Task.Sealing }
+    requires front { SaysLength key.now header.now }
+    requires limit { longest max_bytes header.now
+        ≡ container_limit (length header.now) (size_in header.now) max_bytes }
+    requires max_bytes { max_bytes ≤ MAX_OPENED }
+    requires window { (0 < window) × (window ≤ MAX_WINDOW) }
+    requires within { length rooms.old.current.held ≤ most_first max_bytes header.now window }
+    requires end { length rooms.old.current.held < most_first max_bytes header.now window → IsAtEnd (R.left reader.old) }
+    requires room { window * (size_in header.now + TAG) + 1 ≤ rooms.old.current.room }
+    requires next { length rooms.old.current.held ≤ rooms.old.next.room }
+    requires ready { IsReady task (size_in header.now)
+        (min (window * (size_in header.now + TAG)) (length rooms.old.current.held)) rooms.old.crew rooms.old.places }
+    requires places { rooms.old.places.values ≡ [] }
+    requires may { (left : Option (List ℕ)) × Consumes left (R.left reader.old) rooms.old.current.held
+        × IfSome (O.bound out.old) (MayTake task key.now header.now max_bytes left (O.bytes out.old)) }
+    ensures opened { (left : Option (List ℕ)) → Consumes left (R.left reader.old) rooms.old.current.held
+        → IfOk result (λ n. (plain : List ℕ) × (n ≡ length plain)
+        × Answers key.now header.now max_bytes left (R.left reader.new) (Ok plain)
+        × (task ≡ Task.Opening → Appends (O.bytes out.old) (O.bytes out.new) plain)) }
+    ensures begun { (left : Option (List ℕ)) → Consumes left (R.left reader.old) rooms.old.current.held
+        → OnErr result (task ≡ Task.Opening
+        → HasBegun key.now header.now max_bytes left (O.bytes out.old) (O.bytes out.new)) }
+    ensures sent { (left : Option (List ℕ)) → Consumes left (R.left reader.old) rooms.old.current.held
+        → OnErr result (task ≡ Task.Opening
+        → HasSent key.now header.now [] left (O.bytes out.old) (O.bytes out.new)) }
+    ensures refused { (left : Option (List ℕ)) → Consumes left (R.left reader.old) rooms.old.current.held
+        → IfErr result (λ fault. IsOfBytes fault
+        → Answers key.now header.now max_bytes left (R.left reader.new) (Err fault)) }
+    ensures bound { (left : Option (List ℕ)) → Consumes left (R.left reader.old) rooms.old.current.held
+        → ConsumesUpTo left (R.left reader.new) (longest max_bytes header.now + 1 - length header.now) }
+    ensures no_write { result ≡ Err OpenFault.Write → O.writes ≡ true }
+    ensures count { R.failures reader.new ≡ counted (open_read_failed result) (R.failures reader.old) }
+    ensures writes { O.failures out.new ≡ counted (open_write_failed result) (O.failures out.old) }
+{
+    // Consecutive rounds open as the whole does.
+    rounds_open();
+    let image = header.bytes();
+    let limit = header.longest_bytes(max_bytes) as usize + 1;
+    let size = sealed_bytes(window, header);
+    let mut total = image.len() + rooms.current.held().len();
+    let mut first = 0;
+    'rounds: while total < limit && rooms.current.held().len() > size {
+        let upto = (limit - total).min(size) + 1;
+        match open_full(
+            alloc, task, key, header, first, window, rooms, boxes, reader, out, upto, gate,
+        ) {
+            Ok(()) => {}
+            Err(fault) => return Err(fault),
+        }
+        total += rooms.current.held().len() - 1;
+        match checked(&rooms.places, task, first) {
+            Ok(()) => {}
+            Err(fault) => return Err(refuse(key, image, reader, total, limit, max_bytes, fault)),
+        }
+        first += window;
+    }
+    let cut = match begin_within(key, image, total as u64, max_bytes) {
+        Ok((_, cut)) => cut,
+        Err(fault) => return Err(fault),
+    };
+    match open_last(alloc, task, key, header, first, rooms, boxes, out, gate) {
+        Ok(()) => Ok(cut.plain()),
+        Err(fault) => Err(fault),
+    }
+}
+
 // Opens a container's body in rounds, and has its plaintext taken where it isn't only checked. Returns how many bytes
 // the plaintext has.
-pub(crate) fn open_body<T: Threads + Sync, R: Source, G: Gate + Sync, O: Taking>(
+pub(crate) fn open_body<'a, T: Threads + Clock + Sync, R: Source, G: Gate + Sync, O: Taking>(
     rt: &T,
     alloc: Global,
     task: Task,
-    key: &Key,
-    header: &Header,
+    key: &'a Key,
+    header: &'a Header,
     reader: &mut R,
     max_bytes: u64,
     workers: u32,
@@ -355,48 +440,68 @@ pub(crate) fn open_body<T: Threads + Sync, R: Source, G: Gate + Sync, O: Taking>
     ensures count { R.failures reader.new ≡ counted (open_read_failed result) (R.failures reader.old) }
     ensures writes { O.failures out.new ≡ counted (open_write_failed result) (O.failures out.old) }
 {
-    // Consecutive rounds open as the whole does.
-    rounds_open();
     let image = header.bytes();
-    let limit = header.longest_bytes(max_bytes) as usize + 1;
-    let size = sealed_bytes(window, header);
-    let most = limit - image.len();
-    let mut rooms = match begin(alloc, task, header, reader, most, window, workers) {
+    let most = header.longest_bytes(max_bytes) as usize + 1 - image.len();
+    let mut rooms = match begin(alloc, task, header, reader, most, window) {
         Ok(rooms) => rooms,
         Err(fault) => return Err(fault),
     };
-    let mut total = image.len() + rooms.current.held().len();
-    let mut first = 0;
-    'rounds: while total < limit && rooms.current.held().len() > size {
-        let upto = (limit - total).min(size) + 1;
-        match open_full(
-            rt, alloc, task, key, header, first, window, &mut rooms, reader, out, upto, gate,
-        ) {
-            Ok(()) => {}
-            Err(fault) => return Err(fault),
-        }
-        total += rooms.current.held().len() - 1;
-        match checked(&rooms.places, task, first) {
-            Ok(()) => {}
-            Err(fault) => return Err(refuse(key, image, reader, total, limit, max_bytes, fault)),
-        }
-        first += window;
-    }
-    let cut = match begin_within(key, image, total as u64, max_bytes) {
-        Ok((_, cut)) => cut,
-        Err(fault) => return Err(fault),
+    // More workers than a round has pieces would have nothing to do.
+    let Ok(boxes) = letter_boxes(alloc, workers.min(rooms.crew.room()) - 1) else {
+        return Err(OpenFault::OutOfMemory);
     };
-    match open_last(rt, alloc, task, key, header, first, &mut rooms, out, gate) {
-        Ok(()) => Ok(cut.plain()),
-        Err(fault) => Err(fault),
-    }
+    let room = task.room(header.chunk());
+    let boxes = boxes.as_slice();
+    let kept = &mut rooms;
+    let mut chore = || -> Result<u64, OpenFault>
+        requires task { task ≢ Task.Sealing }
+        requires front { SaysLength key.now header.now }
+        requires limit { longest max_bytes header.now
+            ≡ container_limit (length header.now) (size_in header.now) max_bytes }
+        requires max_bytes { max_bytes ≤ MAX_OPENED }
+        requires window { (0 < window) × (window ≤ MAX_WINDOW) }
+        requires within { length kept.now.current.held ≤ most_first max_bytes header.now window }
+        requires end { length kept.now.current.held < most_first max_bytes header.now window
+            → IsAtEnd (R.left reader.now) }
+        requires room { window * (size_in header.now + TAG) + 1 ≤ kept.now.current.room }
+        requires next { length kept.now.current.held ≤ kept.now.next.room }
+        requires ready { IsReady task (size_in header.now)
+            (min (window * (size_in header.now + TAG)) (length kept.now.current.held)) kept.now.crew kept.now.places }
+        requires places { kept.now.places.values ≡ [] }
+        requires may { (left : Option (List ℕ)) × Consumes left (R.left reader.now) kept.now.current.held
+            × IfSome (O.bound out.now) (MayTake task key.now header.now max_bytes left (O.bytes out.now)) }
+        ensures opened { (left : Option (List ℕ)) → Consumes left (R.left reader.entry.now) kept.entry.now.current.held
+            → IfOk result (λ n. (plain : List ℕ) × (n ≡ length plain)
+            × Answers key.entry.now header.entry.now max_bytes left (R.left reader.exit.now) (Ok plain)
+            × (task ≡ Task.Opening → Appends (O.bytes out.entry.now) (O.bytes out.exit.now) plain)) }
+        ensures begun { (left : Option (List ℕ)) → Consumes left (R.left reader.entry.now) kept.entry.now.current.held
+            → OnErr result (task ≡ Task.Opening → HasBegun key.entry.now header.entry.now max_bytes left
+            (O.bytes out.entry.now) (O.bytes out.exit.now)) }
+        ensures sent { (left : Option (List ℕ)) → Consumes left (R.left reader.entry.now) kept.entry.now.current.held
+            → OnErr result (task ≡ Task.Opening → HasSent key.entry.now header.entry.now [] left
+            (O.bytes out.entry.now) (O.bytes out.exit.now)) }
+        ensures refused { (left : Option (List ℕ)) → Consumes left (R.left reader.entry.now) kept.entry.now.current.held
+            → IfErr result (λ fault. IsOfBytes fault
+            → Answers key.entry.now header.entry.now max_bytes left (R.left reader.exit.now) (Err fault)) }
+        ensures bound { (left : Option (List ℕ)) → Consumes left (R.left reader.entry.now) kept.entry.now.current.held
+            → ConsumesUpTo left (R.left reader.exit.now)
+            (longest max_bytes header.entry.now + 1 - length header.entry.now) }
+        ensures no_write { result ≡ Err OpenFault.Write → O.writes ≡ true }
+        ensures count { R.failures reader.exit.now ≡ counted (open_read_failed result) (R.failures reader.entry.now) }
+        ensures writes { O.failures out.exit.now ≡ counted (open_write_failed result) (O.failures out.entry.now) }
+    {
+        open_begun(
+            alloc, task, key, header, kept, boxes, reader, max_bytes, window, out, gate,
+        )
+    };
+    with_workers(rt, alloc, boxes, room, gate, &mut chore)
 }
 
 /// Opens all that the reader has left with 1 to 16 workers, in rounds of `window` chunks, or of `usual_opening` where
 /// `window` is `None`. Has its plaintext taken where the task is `Opening`. Returns the header and how many bytes the
 /// plaintext has, or the first fault of the container. At a failure some of the plaintext was taken. Of an input that
 /// is too long one byte past the longest container is read.
-pub(crate) fn open_rounds<T: Threads + Sync, R: Source, G: Gate + Sync, O: Taking>(
+pub(crate) fn open_rounds<T: Threads + Clock + Sync, R: Source, G: Gate + Sync, O: Taking>(
     rt: &T,
     alloc: Global,
     task: Task,

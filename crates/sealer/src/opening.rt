@@ -186,7 +186,7 @@ fn read_files<
 
 // Opens the files that are asked for.
 fn open_files<
-    R: AllocGlobal + Threads + Sync,
+    R: AllocGlobal + Clock + Threads + Sync,
     F: OpeningFolder,
     L: Report + Drop,
     E: Report + Drop,
@@ -208,7 +208,7 @@ fn open_files<
 
 // Verifies the files that are asked for.
 fn verify_files<
-    R: AllocGlobal + Threads + Sync,
+    R: AllocGlobal + Clock + Threads + Sync,
     F: Folder,
     L: Report + Drop,
     E: Report + Drop,

@@ -134,7 +134,7 @@ fn unpipe_options<'q>(request: &'q UnpipeRequest<'_>) -> UnpipeOptions<'q>
 }
 
 /// Opens a file of a folder to a stream, as `unpipe_all` does. Returns the status and the stream.
-fn unpipe_from<R: AllocGlobal + Threads + Sync, F: Folder, W: Sink + Drop, E: Report>(
+fn unpipe_from<R: AllocGlobal + Clock + Threads + Sync, F: Folder, W: Sink + Drop, E: Report>(
     rt: &R,
     key: &Key,
     request: &UnpipeRequest<'_>,

@@ -1,4 +1,4 @@
-use Rattle.std.proofs.Common.{rules, ◌≡◌, ◌+◌, ◌++◌, take, length, arith, ◌∙◌}
+use Rattle.std.proofs.Common.{rules, ◌++◌, arith, ◌∙◌}
 use Rattle.std.proofs.KnownBytes.{Consumes-kept}
 use Rattle.opening_core.proofs.ReadLemmas.{still_held, read_length, read_more}
 use Rattle.opening_core.proofs.window.fill_upto.Goals as goal

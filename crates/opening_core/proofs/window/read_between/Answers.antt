@@ -1,4 +1,4 @@
-use Rattle.std.proofs.Common.{rules, arith}
+use Rattle.std.proofs.Common.{arith}
 use Rattle.opening_core.proofs.ReadLemmas.{read_behind}
 use Rattle.opening_core.proofs.window.read_between.Goals as goal
 

@@ -1,5 +1,5 @@
 -- What was read, what of it opened, what of that waits to be taken, and the current round.
-use Rattle.std.proofs.Common.{◌≡◌, ℕ, ◌+◌, ◌-◌, ◌*◌, ◌<◌, ◌≤◌, ◌++◌, false, List, [], length, min, Ok}
+use Rattle.std.proofs.Common.{◌≡◌, ℕ, ◌+◌, ◌-◌, ◌*◌, ◌<◌, ◌≤◌, ◌++◌, false, List, [], Option, length, min, Ok}
 use Rattle.container_core.specs.Chunks.{sealed_chunks}
 use Rattle.container_core.specs.Container.{size_in}
 use Rattle.container_core.specs.Opening.{unsealed_by}
@@ -9,13 +9,13 @@ use Rattle.worker_core.specs.declared.round.Task.TheVariants.{Opening}
 use Rattle.opening_core.specs.Windows.{IsReady}
 use Rattle.opening_core.proofs.OpeningRounds.{OpensBehind}
 use Rattle.opening_core.proofs.SentLemmas.{Sent}
-use Rattle.opening_core.proofs.windows.open_body.Given as goal
+use Rattle.opening_core.proofs.windows.open_begun.Given as goal
 
 abbrev pub invariant-rounds : goal.invariant-rounds
 invariant-rounds g l = record {
   past : List ℕ;
   plain : List ℕ;
-  consumed : Consumes (g.R.Source.left l.fn.reader) (g.R.Source.left l.reader) (past ++ l.rooms.current.held);
+  consumed : (left : Option (List ℕ)) → Consumes left (g.R.Source.left l.fn.reader) l.fn.rooms.current.held → Consumes left (g.R.Source.left l.reader) (past ++ l.rooms.current.held);
   opens : OpensBehind l.key l.header l.first past plain;
   kept : l.task ≡ Opening → Sent (g.O.Taking.bytes l.fn.out) (g.O.Taking.bytes l.out) plain (joined l.rooms.places.values);
   none : l.first ≡ 0 → plain ≡ [];
