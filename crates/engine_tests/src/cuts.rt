@@ -7,6 +7,7 @@ use container_tests::{MOVES, counting_key, moved, zeros_sealed};
 use crew_tests::flip;
 use std::alloc::Global;
 use std::thread::Threads;
+use std::time::Clock;
 
 // The length of the container of 131,073 zero bytes.
 const LENGTH: usize = 131_145;
@@ -34,7 +35,7 @@ static CUTS: [(usize, usize, OpenFault); 8] = [
 ];
 
 // Whether the cut to each of these lengths has this fault.
-fn are_refused<R: Threads + Sync>(
+fn are_refused<R: Threads + Clock + Sync>(
     rt: &R,
     alloc: Global,
     bytes: &[u8],
@@ -53,7 +54,7 @@ fn are_refused<R: Threads + Sync>(
     true
 }
 
-fn are_cuts_refused<R: Threads + Sync>(rt: &R, alloc: Global) -> Option<bool> {
+fn are_cuts_refused<R: Threads + Clock + Sync>(rt: &R, alloc: Global) -> Option<bool> {
     let bytes = three_chunks(alloc, 0)?;
     for (from, upto, fault) in &CUTS {
         if !are_refused(rt, alloc, bytes.as_slice(), *from, *upto, *fault) {
@@ -78,7 +79,7 @@ static CHANGES: [(usize, usize, OpenFault); 5] = [
 ];
 
 // Whether the change of each of these bytes has this fault. Each change is undone.
-fn are_noticed<R: Threads + Sync>(
+fn are_noticed<R: Threads + Clock + Sync>(
     rt: &R,
     alloc: Global,
     bytes: &mut [u8],
@@ -97,7 +98,7 @@ fn are_noticed<R: Threads + Sync>(
     true
 }
 
-fn are_changes_refused<R: Threads + Sync>(rt: &R, alloc: Global) -> Option<bool> {
+fn are_changes_refused<R: Threads + Clock + Sync>(rt: &R, alloc: Global) -> Option<bool> {
     let mut bytes = three_chunks(alloc, 0)?;
     for (from, upto, fault) in &CHANGES {
         if !are_noticed(rt, alloc, bytes.as_mut_slice(), *from, *upto, *fault) {
@@ -113,7 +114,7 @@ fn each_changed_byte_of_the_header_is_refused(rt: HostRuntime) {
 }
 
 // Whether the chunks in this order are refused because of this chunk.
-fn is_move_refused<R: Threads + Sync>(
+fn is_move_refused<R: Threads + Clock + Sync>(
     rt: &R,
     alloc: Global,
     bytes: &[u8],
@@ -129,7 +130,11 @@ fn is_move_refused<R: Threads + Sync>(
 }
 
 // Whether each order of `MOVES` is refused. `other` is the container for another file number.
-fn are_moves_refused<R: Threads + Sync>(rt: &R, alloc: Global, other: &[u8]) -> Option<bool> {
+fn are_moves_refused<R: Threads + Clock + Sync>(
+    rt: &R,
+    alloc: Global,
+    other: &[u8],
+) -> Option<bool> {
     let bytes = three_chunks(alloc, 0)?;
     for (_, order, chunk) in &MOVES {
         if is_move_refused(rt, alloc, bytes.as_slice(), other, order, *chunk) != Some(true) {
@@ -139,7 +144,7 @@ fn are_moves_refused<R: Threads + Sync>(rt: &R, alloc: Global, other: &[u8]) -> 
     Some(true)
 }
 
-fn are_all_moves_refused<R: Threads + Sync>(rt: &R, alloc: Global) -> Option<bool> {
+fn are_all_moves_refused<R: Threads + Clock + Sync>(rt: &R, alloc: Global) -> Option<bool> {
     let other = three_chunks(alloc, 1)?;
     are_moves_refused(rt, alloc, other.as_slice())
 }

@@ -14,11 +14,12 @@ use opening_core::{run_open, run_read, run_verify, verify_one};
 use std::alloc::Global;
 use std::test::Fail;
 use std::thread::Threads;
+use std::time::Clock;
 
 const MOST: usize = usize::MAX;
 
 // The fault for these bytes with `workers` workers, if opening and verifying agree and nothing is written.
-fn refusal_by<R: Threads + Sync>(
+fn refusal_by<R: Threads + Clock + Sync>(
     rt: &R,
     alloc: Global,
     bytes: &[u8],
@@ -55,7 +56,7 @@ fn refusal_by_one(alloc: Global, bytes: &[u8]) -> Option<OpenFault> {
 }
 
 // The fault for these bytes, if all agree: one thread, 1 and 4 workers, and 2 workers in windows of one chunk.
-pub(crate) fn refusal_of<R: Threads + Sync>(
+pub(crate) fn refusal_of<R: Threads + Clock + Sync>(
     rt: &R,
     alloc: Global,
     bytes: &[u8],
@@ -68,7 +69,7 @@ pub(crate) fn refusal_of<R: Threads + Sync>(
 }
 
 // Whether all engines refuse the bytes of a case with the expected fault.
-fn is_refused<R: Threads + Sync>(rt: &R, alloc: Global, case: &Case) -> bool {
+fn is_refused<R: Threads + Clock + Sync>(rt: &R, alloc: Global, case: &Case) -> bool {
     match refusal_of(rt, alloc, case.bytes()) {
         Some(fault) => case.is_answered(&Err(fault)),
         None => false,
@@ -76,7 +77,12 @@ fn is_refused<R: Threads + Sync>(rt: &R, alloc: Global, case: &Case) -> bool {
 }
 
 // Whether there are `count` cases, and all but the first (a good container) are refused.
-fn are_refused<R: Threads + Sync>(rt: &R, alloc: Global, cases: &[Case], count: usize) -> bool {
+fn are_refused<R: Threads + Clock + Sync>(
+    rt: &R,
+    alloc: Global,
+    cases: &[Case],
+    count: usize,
+) -> bool {
     let Some(damaged) = cases.get(1..) else {
         return false;
     };
@@ -127,7 +133,7 @@ static CHANGES: [(u8, u8, u8, u32); 8] = [
 ];
 
 // Whether each of these changes is detected. A header has `header` bytes, and a sealed chunk `sealed`.
-fn are_seen<R: Threads + Sync>(
+fn are_seen<R: Threads + Clock + Sync>(
     rt: &R,
     alloc: Global,
     bytes: &mut [u8],
@@ -162,7 +168,7 @@ fn three_chunks(alloc: Global, exponent: u32, label: usize) -> Option<Vec<u8>> {
 }
 
 // Whether they are detected in the container with this exponent and a label of `label` bytes.
-fn are_named<R: Threads + Sync>(
+fn are_named<R: Threads + Clock + Sync>(
     rt: &R,
     alloc: Global,
     exponent: u32,
@@ -185,7 +191,7 @@ fn changed_chunks_are_named(rt: HostRuntime) {
 }
 
 // A label length that is one too great leaves a last chunk without a byte of plaintext.
-fn is_length_wrong<R: Threads + Sync>(rt: &R, alloc: Global) -> Option<bool> {
+fn is_length_wrong<R: Threads + Clock + Sync>(rt: &R, alloc: Global) -> Option<bool> {
     let mut bytes = three_chunks(alloc, 12, 0)?;
     flip(bytes.as_mut_slice(), FRONT - 1, 1);
     Some(refusal_of(rt, alloc, bytes.as_slice()) == Some(OpenFault::BadLength))
@@ -219,7 +225,7 @@ fn late_damaged(alloc: Global) -> Option<Vec<u8>> {
 }
 
 // The fault of `run_read` for these bytes with `workers` workers.
-fn read_refusal<R: Threads + Sync>(
+fn read_refusal<R: Threads + Clock + Sync>(
     rt: &R,
     alloc: Global,
     bytes: &[u8],
@@ -241,7 +247,7 @@ fn read_refusal<R: Threads + Sync>(
 }
 
 // Whether all engines name chunk 1,060, also in windows of 256 chunks.
-fn is_late_named<R: Threads + Sync>(rt: &R, alloc: Global) -> Option<bool> {
+fn is_late_named<R: Threads + Clock + Sync>(rt: &R, alloc: Global) -> Option<bool> {
     let damaged = late_damaged(alloc)?;
     let bytes = damaged.as_slice();
     let fault = Some(OpenFault::Forged { chunk: 1_060 });

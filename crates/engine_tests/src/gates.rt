@@ -11,8 +11,11 @@ use opening_core::{run_check, run_open, run_plain, run_read, run_verify};
 use sealing_core::{run_pipe, run_seal};
 use std::alloc::Global;
 use std::sync::Wait;
+use std::sync::atomic::AtomicU64;
+use std::sync::atomic::Ordering::SeqCst;
 use std::test::Fail;
 use std::thread::Threads;
+use std::time::Clock;
 
 const MOST: usize = usize::MAX;
 
@@ -33,6 +36,17 @@ enum Engine {
     Check,
 }
 
+// Those whose rounds have at least eight chunks of 64 KiB, and those whose rounds have four.
+static OF_EIGHT: [Engine; 5] = [
+    Engine::Seal,
+    Engine::Pipe(64),
+    Engine::Open,
+    Engine::Verify,
+    Engine::Plain,
+];
+
+static OF_FOUR: [Engine; 2] = [Engine::Read, Engine::Check];
+
 static ENGINES: [Engine; 7] = [
     Engine::Seal,
     Engine::Pipe(64),
@@ -44,7 +58,7 @@ static ENGINES: [Engine; 7] = [
 ];
 
 // Whether an engine works on this plaintext or its container, and returns what it must.
-fn runs<R: Threads + Wait + Sync, G: Gate + Sync>(
+fn runs<R: Threads + Clock + Wait + Sync, G: Gate + Sync>(
     rt: &R,
     alloc: Global,
     engine: Engine,
@@ -133,7 +147,7 @@ fn pipes<R: Threads + Wait + Sync, G: Gate + Sync>(
     Some(sealed == Ok(plain.len() as u64) && writer.bytes() == container)
 }
 
-fn reads<R: Threads + Sync, G: Gate + Sync>(
+fn reads<R: Threads + Clock + Sync, G: Gate + Sync>(
     rt: &R,
     alloc: Global,
     engine: Engine,
@@ -171,7 +185,7 @@ fn begins(bytes: &[u8], front: &[u8]) -> bool {
 }
 
 // Whether `run_read` returns the header and the plaintext.
-fn reads_all<R: Threads + Sync, G: Gate + Sync>(
+fn reads_all<R: Threads + Clock + Sync, G: Gate + Sync>(
     rt: &R,
     alloc: Global,
     reader: &mut FromMemory<'_>,
@@ -189,7 +203,7 @@ fn reads_all<R: Threads + Sync, G: Gate + Sync>(
     Some(is_put && writer.bytes() == plain && begins(container, header.bytes()))
 }
 
-fn opens<R: Threads + Sync, G: Gate + Sync>(
+fn opens<R: Threads + Clock + Sync, G: Gate + Sync>(
     rt: &R,
     alloc: Global,
     reader: &mut FromMemory<'_>,
@@ -216,7 +230,7 @@ static MEETINGS: [(u32, u32, u64, bool); 4] = [
 ];
 
 // Whether `workers` workers of each engine meet (or don't) as expected.
-fn are_met<R: Threads + Wait + Sync>(
+fn are_met<R: Threads + Clock + Wait + Sync>(
     rt: &R,
     alloc: Global,
     chunks: u32,
@@ -262,7 +276,11 @@ fn a_worker_does_not_meet_itself(rt: HostRuntime) {
 }
 
 // Whether two workers meet over a container of two chunks of 1 MiB. Its windows have a chunk for each worker.
-fn meet_over_great_chunks<R: Threads + Sync>(rt: &R, alloc: Global, plain: &[u8]) -> Option<bool> {
+fn meet_over_great_chunks<R: Threads + Clock + Sync>(
+    rt: &R,
+    alloc: Global,
+    plain: &[u8],
+) -> Option<bool> {
     let shape = Shape::two(20, b"").ok()?;
     let container = seal(alloc, &counting_key(), &shape, PREFIX, plain).ok()?;
     for engine in [Engine::Read, Engine::Check] {
@@ -283,7 +301,7 @@ fn two_workers_meet_over_great_chunks(rt: HostRuntime) -> Result<(), Fail> {
 }
 
 // Whether `workers` workers of an engine pass once with each of 18 pieces.
-fn passes_each_once<R: Threads + Wait + Sync>(
+fn passes_each_once<R: Threads + Clock + Wait + Sync>(
     rt: &R,
     alloc: Global,
     engine: Engine,
@@ -297,7 +315,7 @@ fn passes_each_once<R: Threads + Wait + Sync>(
     Some(is_done && gate.is_each_once(u64::from(workers)))
 }
 
-fn pass_each_once<R: Threads + Wait + Sync>(
+fn pass_each_once<R: Threads + Clock + Wait + Sync>(
     rt: &R,
     alloc: Global,
     plain: &[u8],
@@ -323,7 +341,11 @@ fn all_workers_pass_with_each_piece_once(rt: HostRuntime) -> Result<(), Fail> {
 }
 
 // Whether four workers pass once with each piece of a stream, at each depth.
-fn pass_at_any_depth<R: Threads + Wait + Sync>(rt: &R, alloc: Global, plain: &[u8]) -> bool {
+fn pass_at_any_depth<R: Threads + Clock + Wait + Sync>(
+    rt: &R,
+    alloc: Global,
+    plain: &[u8],
+) -> bool {
     for depth in 1..65 {
         if passes_each_once(rt, alloc, Engine::Pipe(depth), plain, 4) != Some(true) {
             return false;
@@ -339,22 +361,81 @@ fn all_pieces_of_a_stream_pass_at_any_depth(rt: HostRuntime) -> Result<(), Fail>
     Ok(())
 }
 
-// Whether each engine's second worker makes seven pieces while the first is held with one.
-fn are_held_with_one<R: Threads + Wait + Sync>(rt: &R, alloc: Global, plain: &[u8]) -> bool {
-    for engine in &ENGINES {
-        let gate = Late::new(7, TURNS);
+// Whether each engine's second worker makes the other pieces while the first is held with one.
+fn are_held_with_one<R: Threads + Clock + Wait + Sync>(
+    rt: &R,
+    alloc: Global,
+    engines: &[Engine],
+    plain: &[u8],
+    others: u64,
+) -> bool {
+    for engine in engines {
+        let gate = Late::new(others, TURNS);
         let is_done = runs(rt, alloc, *engine, plain, 2, &gate);
-        if !is_done || gate.gave_up() || gate.passes() != (7, 1) {
+        if !is_done || gate.gave_up() || gate.passes() != (others, 1) {
             return false;
         }
     }
     true
 }
 
-// A worker that is slow with one piece holds up no other: the second worker meanwhile makes the other seven.
+// A worker that is slow with one piece holds up no other: the second worker meanwhile makes the others of the round.
 #[test]
 fn a_held_worker_holds_one_piece(rt: HostRuntime) -> Result<(), Fail> {
-    let plain = pattern(rt.alloc(), 8 * CHUNK)?;
-    assert!(rt; are_held_with_one(&rt, rt.alloc(), plain.as_slice()));
+    let eight = pattern(rt.alloc(), 8 * CHUNK)?;
+    let four = pattern(rt.alloc(), 4 * CHUNK)?;
+    assert!(rt; are_held_with_one(&rt, rt.alloc(), &OF_EIGHT, eight.as_slice(), 7));
+    assert!(rt; are_held_with_one(&rt, rt.alloc(), &OF_FOUR, four.as_slice(), 3));
+    Ok(())
+}
+
+// Holds worker 0 in each round of four chunks until worker 1 has passed in it.
+#[derive(Drop)]
+struct EachRound {
+    reached: AtomicU64,
+    gave_up: AtomicU64,
+}
+
+impl Gate for EachRound {
+    fn pass(&self, worker: u32, piece: u32) {
+        let round = u64::from(piece / 4) + 1;
+        if worker == 1 {
+            self.reached.store(round, SeqCst);
+            return;
+        }
+        for _turn in 0..TURNS {
+            if self.reached.load(SeqCst) >= round {
+                return;
+            }
+        }
+        self.gave_up.store(1, SeqCst);
+    }
+}
+
+// Whether a second worker that lasts makes a piece of each of three rounds.
+fn works_in_each_round<R: Threads + Clock + Sync>(
+    rt: &R,
+    alloc: Global,
+    plain: &[u8],
+) -> Option<bool> {
+    let shape = Shape::one();
+    let container = seal(alloc, &counting_key(), &shape, PREFIX, plain).ok()?;
+    for engine in &OF_FOUR {
+        let gate = EachRound {
+            reached: AtomicU64::new(0),
+            gave_up: AtomicU64::new(0),
+        };
+        let is_done = reads(rt, alloc, *engine, plain, container.as_slice(), 2, &gate);
+        if !is_done || gate.gave_up.load(SeqCst) > 0 || gate.reached.load(SeqCst) != 3 {
+            return Some(false);
+        }
+    }
+    Some(true)
+}
+
+#[test]
+fn a_worker_that_lasts_works_in_each_round(rt: HostRuntime) -> Result<(), Fail> {
+    let plain = pattern(rt.alloc(), 12 * CHUNK)?;
+    assert!(rt; works_in_each_round(&rt, rt.alloc(), plain.as_slice()) == Some(true));
     Ok(())
 }

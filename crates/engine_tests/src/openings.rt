@@ -11,11 +11,12 @@ use opening_core::{run_open, run_plain, run_plain_by, run_verify, run_verify_by}
 use std::alloc::Global;
 use std::test::Fail;
 use std::thread::Threads;
+use std::time::Clock;
 
 const MOST: usize = usize::MAX;
 
 // Whether the container of the empty plaintext opens and verifies where no byte is allowed, and writes nothing.
-fn is_empty_opened<R: Threads + Sync>(
+fn is_empty_opened<R: Threads + Clock + Sync>(
     rt: &R,
     alloc: Global,
     bytes: &[u8],
@@ -34,7 +35,12 @@ fn is_empty_opened<R: Threads + Sync>(
 }
 
 // Whether no byte is then opened, and one byte is too long.
-fn is_none_allowed<R: Threads + Sync>(rt: &R, alloc: Global, empty: &[u8], one: &[u8]) -> bool {
+fn is_none_allowed<R: Threads + Clock + Sync>(
+    rt: &R,
+    alloc: Global,
+    empty: &[u8],
+    one: &[u8],
+) -> bool {
     for workers in [1, 4] {
         if is_empty_opened(rt, alloc, empty, workers) != Some(true)
             || fault_of(rt, alloc, one, 0, workers) != Some(OpenFault::TooLong)
@@ -53,7 +59,7 @@ fn no_plaintext_byte_allowed(rt: HostRuntime) {
 }
 
 // Whether a container opens to this plaintext and verifies, with `workers` workers in windows of `window` chunks.
-pub(crate) fn opens_in<R: Threads + Sync>(
+pub(crate) fn opens_in<R: Threads + Clock + Sync>(
     rt: &R,
     alloc: Global,
     bytes: &[u8],
@@ -75,7 +81,7 @@ pub(crate) fn opens_in<R: Threads + Sync>(
 }
 
 // Whether it does with these workers and windows.
-fn all_open<R: Threads + Sync>(rt: &R, alloc: Global, bytes: &[u8], plain: &[u8]) -> bool {
+fn all_open<R: Threads + Clock + Sync>(rt: &R, alloc: Global, bytes: &[u8], plain: &[u8]) -> bool {
     for (workers, window) in [(1, 16), (3, 16), (2, 1), (4, 5), (3, 256)] {
         if opens_in(rt, alloc, bytes, plain, workers, window) != Some(true) {
             return false;
@@ -85,7 +91,7 @@ fn all_open<R: Threads + Sync>(rt: &R, alloc: Global, bytes: &[u8], plain: &[u8]
 }
 
 // The same for `length` bytes of the pattern.
-fn are_opened<R: Threads + Sync>(rt: &R, alloc: Global, length: usize) -> Option<bool> {
+fn are_opened<R: Threads + Clock + Sync>(rt: &R, alloc: Global, length: usize) -> Option<bool> {
     let plain = pattern(alloc, length).ok()?;
     let plain = plain.as_slice();
     let bytes = seal(alloc, &counting_key(), &Shape::one(), PREFIX, plain).ok()?;
@@ -105,7 +111,7 @@ fn whole_windows_open(rt: HostRuntime) {
 }
 
 // Whether opening and verifying fail with `Read` if the reader fails after `after` bytes, with nothing written.
-fn is_failure_seen<R: Threads + Sync>(
+fn is_failure_seen<R: Threads + Clock + Sync>(
     rt: &R,
     alloc: Global,
     bytes: &[u8],
@@ -138,7 +144,7 @@ fn is_failure_seen<R: Threads + Sync>(
 }
 
 // Whether each of these numbers of workers reports it at each of `places`.
-pub(crate) fn are_failures_seen<R: Threads + Sync>(
+pub(crate) fn are_failures_seen<R: Threads + Clock + Sync>(
     rt: &R,
     alloc: Global,
     bytes: &[u8],

@@ -14,6 +14,7 @@ use std::io::{ErrorKind, Read};
 use std::sync::Wait;
 use std::sync::atomic::{AtomicU64, Ordering};
 use std::thread::Threads;
+use std::time::Clock;
 
 // How often the reader checks for the second worker: where there is one, and (`FEW_TURNS`) where there isn't.
 const TURNS: u64 = 1_000_000_000;
@@ -130,7 +131,7 @@ fn seal_held<T: Threads + Wait + Sync>(
 }
 
 // Verifies or opens a container in the same way.
-fn read_held_from<T: Threads + Sync>(
+fn read_held_from<T: Threads + Clock + Sync>(
     rt: &T,
     alloc: Global,
     bytes: &[u8],
@@ -161,7 +162,7 @@ fn read_held_from<T: Threads + Sync>(
 }
 
 // The same for the container of five chunks of the pattern.
-fn read_held<T: Threads + Sync>(
+fn read_held<T: Threads + Clock + Sync>(
     rt: &T,
     alloc: Global,
     opens: bool,

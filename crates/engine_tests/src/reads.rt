@@ -16,6 +16,7 @@ use std::io;
 use std::io::Read;
 use std::test::Fail;
 use std::thread::Threads;
+use std::time::Clock;
 
 const MOST: usize = usize::MAX;
 
@@ -39,7 +40,7 @@ impl Read for Endless<'_> {
 }
 
 // How many bytes opening reads of an endless input, if it fails with `fault` and writes nothing.
-fn opening_reads<R: Threads + Sync>(
+fn opening_reads<R: Threads + Clock + Sync>(
     rt: &R,
     alloc: Global,
     front: &[u8],
@@ -71,7 +72,7 @@ fn opening_reads<R: Threads + Sync>(
 }
 
 // The same for verifying.
-fn verifying_reads<R: Threads + Sync>(
+fn verifying_reads<R: Threads + Clock + Sync>(
     rt: &R,
     alloc: Global,
     front: &[u8],
@@ -93,7 +94,7 @@ fn verifying_reads<R: Threads + Sync>(
 }
 
 // Whether 1 and 4 workers read `bytes` bytes of an endless input, and fail with `fault`.
-fn read_so_many<R: Threads + Sync>(
+fn read_so_many<R: Threads + Clock + Sync>(
     rt: &R,
     alloc: Global,
     front: &[u8],
@@ -122,7 +123,7 @@ static READS: [(u64, [u64; 3]); 8] = [
 
 // Whether an endless input is read one byte past the longest container allowed. The header has `header` bytes, and the
 // chunks 4 KiB, 64 KiB or 1 MiB.
-fn are_reads_bound<R: Threads + Sync>(
+fn are_reads_bound<R: Threads + Clock + Sync>(
     rt: &R,
     alloc: Global,
     begun: &[u8],
@@ -141,7 +142,7 @@ fn are_reads_bound<R: Threads + Sync>(
 }
 
 // Whether that holds for an input that begins as a container of version 2.
-fn are_second_reads_bound<R: Threads + Sync>(
+fn are_second_reads_bound<R: Threads + Clock + Sync>(
     rt: &R,
     alloc: Global,
     exponent: u32,
@@ -187,7 +188,11 @@ fn an_endless_input_of_another_version_is_read_to_its_bound(rt: HostRuntime) -> 
 
 // Whether 1 and 4 workers report a reader that fails after 24 bytes of a container, after 25, and one byte before the
 // end of the header. The label has `label` bytes.
-fn is_end_no_failure<R: Threads + Sync>(rt: &R, alloc: Global, label: usize) -> Option<bool> {
+fn is_end_no_failure<R: Threads + Clock + Sync>(
+    rt: &R,
+    alloc: Global,
+    label: usize,
+) -> Option<bool> {
     let bytes = container_of(alloc, 12, label, b"1")?;
     let header = (FRONT + label.min(255)) as u64;
     Some(are_failures_seen(rt, alloc, bytes.as_slice(), &[24, 25, header - 1], &[1, 4]))

@@ -16,6 +16,7 @@ use sealing_core::run_seal_by;
 use std::alloc::Global;
 use std::sync::Wait;
 use std::thread::Threads;
+use std::time::Clock;
 
 const MOST: usize = usize::MAX;
 
@@ -86,7 +87,7 @@ fn seals_to<R: Threads + Wait + Sync>(
 }
 
 // Whether a container opens to this plaintext, and all of it is written.
-fn opens_to<R: Threads + Sync>(
+fn opens_to<R: Threads + Clock + Sync>(
     rt: &R,
     alloc: Global,
     bytes: &[u8],
@@ -127,7 +128,7 @@ fn opens_by_one(alloc: Global, bytes: &[u8], plain: &[u8]) -> Option<bool> {
 }
 
 // Whether 1 and 4 workers in two windows make this container, and all engines open it.
-fn goes_round<R: Threads + Wait + Sync>(
+fn goes_round<R: Threads + Clock + Wait + Sync>(
     rt: &R,
     alloc: Global,
     shape: &Shape,
@@ -146,7 +147,7 @@ fn goes_round<R: Threads + Wait + Sync>(
 }
 
 // The container of `length` bytes of the pattern, if all engines make and open it.
-fn made_by_all<R: Threads + Wait + Sync>(
+fn made_by_all<R: Threads + Clock + Wait + Sync>(
     rt: &R,
     alloc: Global,
     exponent: u32,
@@ -164,7 +165,7 @@ fn made_by_all<R: Threads + Wait + Sync>(
 }
 
 // Whether all engines make and open the container of `count` bytes, and it has this length and digest.
-fn is_known<R: Threads + Wait + Sync>(
+fn is_known<R: Threads + Clock + Wait + Sync>(
     rt: &R,
     alloc: Global,
     exponent: u32,
@@ -190,7 +191,7 @@ fn containers_made_elsewhere(rt: HostRuntime) {
 }
 
 // Whether all engines make and open the containers of no byte, one byte, a full chunk, and a byte more.
-fn all_lengths_go_round<R: Threads + Wait + Sync>(
+fn all_lengths_go_round<R: Threads + Clock + Wait + Sync>(
     rt: &R,
     alloc: Global,
     exponent: u32,

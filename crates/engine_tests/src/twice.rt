@@ -12,6 +12,7 @@ use output_tests::CheckedOutput;
 use std::alloc::Global;
 use std::test::Fail;
 use std::thread::Threads;
+use std::time::Clock;
 
 const MOST: usize = usize::MAX;
 
@@ -173,7 +174,7 @@ fn sealed(alloc: Global, file: u8, plain: &[u8]) -> Option<Vec<u8>> {
 }
 
 // The result, and how many bytes were written. They must be a prefix of the text.
-fn opened<R: Threads + Sync, S: Readings>(
+fn opened<R: Threads + Clock + Sync, S: Readings>(
     rt: &R,
     alloc: Global,
     source: &mut S,
@@ -198,7 +199,12 @@ fn opened<R: Threads + Sync, S: Readings>(
 }
 
 // If both readings return the container, everything is written, with any number of workers.
-fn opens<R: Threads + Sync>(rt: &R, alloc: Global, length: u32, workers: u32) -> Option<bool>
+fn opens<R: Threads + Clock + Sync>(
+    rt: &R,
+    alloc: Global,
+    length: u32,
+    workers: u32,
+) -> Option<bool>
     requires { (0 < workers) × (workers ≤ MAX_WORKERS) }
 {
     let plain = text(alloc, length)?;
@@ -225,7 +231,7 @@ fn all_is_written(rt: HostRuntime) -> Result<(), Fail> {
 }
 
 // The byte at this place is changed before the first reading, or after it.
-fn altered<R: Threads + Sync>(
+fn altered<R: Threads + Clock + Sync>(
     rt: &R,
     alloc: Global,
     place: usize,
@@ -282,7 +288,7 @@ fn a_change_between_the_readings_stops_before_its_window(rt: HostRuntime) -> Res
 }
 
 // The second reading returns another container under the key, or the first one cut, or a read fails.
-fn swapped<R: Threads + Sync>(
+fn swapped<R: Threads + Clock + Sync>(
     rt: &R,
     alloc: Global,
     file: u8,
@@ -323,7 +329,7 @@ fn another_container_is_not_written(rt: HostRuntime) -> Result<(), Fail> {
 }
 
 // The writer fails after `bytes` bytes.
-fn broken<R: Threads + Sync>(
+fn broken<R: Threads + Clock + Sync>(
     rt: &R,
     alloc: Global,
     bytes: u64,
@@ -353,7 +359,7 @@ fn a_failed_write_leaves_a_beginning(rt: HostRuntime) -> Result<(), Fail> {
 }
 
 // The fault, if any, and how many calls failed, where calls of the two readings fail so.
-fn failures_of<R: Threads + Sync>(
+fn failures_of<R: Threads + Clock + Sync>(
     rt: &R,
     alloc: Global,
     first: Option<Schedule>,
@@ -386,7 +392,7 @@ fn failed_reads_are_counted_over_both_readings(rt: HostRuntime) -> Result<(), Fa
 
 // What a second reading writes to an output that may hold only what is checked of it under the header of the first. The
 // result, and how many bytes were written. They must be a prefix of the text.
-fn checked<T: Threads + Sync>(
+fn checked<T: Threads + Clock + Sync>(
     rt: &T,
     alloc: Global,
     first: &[u8],
@@ -410,7 +416,7 @@ fn checked<T: Threads + Sync>(
 }
 
 // The same, where a byte is changed before the second reading; none is if the container ends before it.
-fn checked_after<T: Threads + Sync>(
+fn checked_after<T: Threads + Clock + Sync>(
     rt: &T,
     alloc: Global,
     place: usize,

@@ -13,6 +13,7 @@ use sealing_core::run_seal_by;
 use std::alloc::{AllocError, Global};
 use std::sync::Wait;
 use std::thread::Threads;
+use std::time::Clock;
 
 const BYTES: u64 = 65_537;
 
@@ -61,7 +62,7 @@ fn seal_zeros<R: Threads + Wait + Sync>(
     Some((result, spent.way()))
 }
 
-fn open_bytes<R: Threads + Sync>(
+fn open_bytes<R: Threads + Clock + Sync>(
     rt: &R,
     alloc: Global,
     bytes: &[u8],
@@ -83,7 +84,7 @@ fn open_bytes<R: Threads + Sync>(
     )
 }
 
-fn verify_bytes<R: Threads + Sync>(
+fn verify_bytes<R: Threads + Clock + Sync>(
     rt: &R,
     alloc: Global,
     bytes: &[u8],
@@ -106,7 +107,11 @@ fn is_sealed_by_steps<R: Threads + Wait + Sync>(
     Some(answer == (Ok(BYTES), Way::Sealed) && is_container(writer.bytes()))
 }
 
-fn is_opened_by_steps<R: Threads + Sync>(rt: &R, alloc: Global, step: usize) -> Option<bool> {
+fn is_opened_by_steps<R: Threads + Clock + Sync>(
+    rt: &R,
+    alloc: Global,
+    step: usize,
+) -> Option<bool> {
     let bytes = sealed_zeros(alloc)?;
     let mut writer = writer_of(alloc, step, Schedule::Never)?;
     let opened = open_bytes(rt, alloc, bytes.as_slice(), step, &mut writer);
@@ -126,7 +131,7 @@ fn a_byte_a_call_changes_no_answer(rt: HostRuntime) {
 static ROOMS: [usize; 9] = [0, 1, 23, 24, 25, 65_535, 65_536, 65_537, 65_593];
 
 // Whether opening into this room writes exactly that much, and fails with `Write` unless there is room for everything.
-fn is_opened_into<R: Threads + Sync>(
+fn is_opened_into<R: Threads + Clock + Sync>(
     rt: &R,
     alloc: Global,
     whole: &[u8],
@@ -143,7 +148,7 @@ fn is_opened_into<R: Threads + Sync>(
     Some(answer == wanted && writer.bytes() == ZERO_BYTES.get(..taken)?)
 }
 
-fn are_opened_into<R: Threads + Sync>(rt: &R, alloc: Global) -> Option<bool> {
+fn are_opened_into<R: Threads + Clock + Sync>(rt: &R, alloc: Global) -> Option<bool> {
     let whole = sealed_zeros(alloc)?;
     for room in &ROOMS {
         if is_opened_into(rt, alloc, whole.as_slice(), *room) != Some(true) {
@@ -188,7 +193,7 @@ fn a_refused_growth_seals_nothing_or_all(rt: HostRuntime) {
     assert!(rt; seals_again(&rt, rt.alloc()) == Some(true));
 }
 
-fn is_opened_or_refused<R: Threads + Sync>(
+fn is_opened_or_refused<R: Threads + Clock + Sync>(
     rt: &R,
     alloc: Global,
     bytes: &[u8],
@@ -200,7 +205,7 @@ fn is_opened_or_refused<R: Threads + Sync>(
     })
 }
 
-fn opens_again<R: Threads + Wait + Sync>(rt: &R, alloc: Global) -> Option<bool> {
+fn opens_again<R: Threads + Clock + Wait + Sync>(rt: &R, alloc: Global) -> Option<bool> {
     let bytes = sealed_zeros(alloc)?;
     match is_opened_or_refused(rt, alloc, bytes.as_slice())? {
         None => is_opened_or_refused(rt, alloc, bytes.as_slice())?,
@@ -213,7 +218,7 @@ fn a_refused_growth_opens_nothing_or_all(rt: HostRuntime) {
     assert!(rt; opens_again(&rt, rt.alloc()) == Some(true));
 }
 
-fn verifies_again<R: Threads + Sync>(rt: &R, alloc: Global) -> Option<bool> {
+fn verifies_again<R: Threads + Clock + Sync>(rt: &R, alloc: Global) -> Option<bool> {
     let bytes = sealed_zeros(alloc)?;
     let verified = match verify_bytes(rt, alloc, bytes.as_slice(), MOST) {
         Err(OpenFault::OutOfMemory) => verify_bytes(rt, alloc, bytes.as_slice(), MOST),

@@ -8,6 +8,7 @@ use opening_core::{run_open_by, run_plain_by, run_verify_by, verify_one};
 use std::alloc::Global;
 use std::test::Fail;
 use std::thread::Threads;
+use std::time::Clock;
 
 const MOST: usize = usize::MAX;
 
@@ -39,7 +40,7 @@ pub(crate) fn forty_chunks(alloc: Global) -> Option<Vec<u8>> {
 
 // The fault of verifying these bytes with `workers` workers in windows of `window` chunks. Opening them must fail in
 // the same way and write nothing, and so must the engine that returns the plaintext.
-pub(crate) fn fault_in<R: Threads + Sync>(
+pub(crate) fn fault_in<R: Threads + Clock + Sync>(
     rt: &R,
     alloc: Global,
     bytes: &[u8],
@@ -100,7 +101,7 @@ pub(crate) fn fault_in<R: Threads + Sync>(
 }
 
 // The same in windows of 16 chunks and of one, which must agree.
-pub(crate) fn fault_of<R: Threads + Sync>(
+pub(crate) fn fault_of<R: Threads + Clock + Sync>(
     rt: &R,
     alloc: Global,
     bytes: &[u8],
@@ -117,7 +118,7 @@ pub(crate) fn fault_of<R: Threads + Sync>(
 
 // Whether the first `kept` bytes of a container fail with `fault`, with `workers` workers and at most `max_bytes` bytes
 // of plaintext.
-fn is_refused_so<R: Threads + Sync>(
+fn is_refused_so<R: Threads + Clock + Sync>(
     rt: &R,
     alloc: Global,
     bytes: &[u8],
@@ -165,7 +166,7 @@ fn is_named_alone(alloc: Global, bytes: &[u8], fault: OpenFault) -> bool {
 }
 
 // Whether `workers` workers and one thread name the lowest of these changed chunks. The changes are undone.
-fn is_least_named<R: Threads + Sync>(
+fn is_least_named<R: Threads + Clock + Sync>(
     rt: &R,
     alloc: Global,
     bytes: &mut [u8],
@@ -285,7 +286,7 @@ static HEADERS: [(usize, u64, OpenFault); 9] = [
 ];
 
 // Whether 1 and 4 workers refuse the container with `fault` after this byte is changed. The change is undone.
-fn is_header_refused<R: Threads + Sync>(
+fn is_header_refused<R: Threads + Clock + Sync>(
     rt: &R,
     alloc: Global,
     bytes: &mut [u8],

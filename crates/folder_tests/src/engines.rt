@@ -16,9 +16,10 @@ use std::alloc::Global;
 use std::marker::Brand;
 use std::sync::Wait;
 use std::thread::Threads;
+use std::time::Clock;
 
 // Writes by `write_again`. The record and the folder are those that are named.
-fn again_named<'a, N: Rest, T: Threads + Sync, R: Source, F: Outputs, G: Gate + Sync>(
+fn again_named<'a, N: Rest, T: Threads + Clock + Sync, R: Source, F: Outputs, G: Gate + Sync>(
     rt: &T,
     alloc: Global,
     key: &Key,
@@ -50,7 +51,7 @@ fn again_named<'a, N: Rest, T: Threads + Sync, R: Source, F: Outputs, G: Gate + 
 
 /// Writes the plaintext of a container with this header, which is read once more, to the output in hand. See
 /// `opening_core::write_again`.
-pub fn fill_again<T: Threads + Sync, R: Source, F: Outputs, G: Gate + Sync>(
+pub fn fill_again<T: Threads + Clock + Sync, R: Source, F: Outputs, G: Gate + Sync>(
     rt: &T,
     alloc: Global,
     key: &Key,

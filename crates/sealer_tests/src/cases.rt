@@ -11,6 +11,7 @@ use sealer_core::OpenOptions;
 use std::alloc::Global;
 use std::sync::Wait;
 use std::thread::Threads;
+use std::time::Clock;
 
 // What fails.
 #[derive(Clone, Copy)]
@@ -143,7 +144,7 @@ fn options_of<'a>(case: &Case<'a>) -> OpenOptions<'a> {
 }
 
 // The status of the case's run, or `None` if the options are invalid.
-fn status_over<R: AllocGlobal + Threads + Wait + Sync, S: Fold>(
+fn status_over<R: AllocGlobal + Threads + Clock + Wait + Sync, S: Fold>(
     rt: &R,
     file: &mut LedgerFile<S>,
     folder: &mut MemoryFolder,
@@ -213,7 +214,7 @@ fn status_over<R: AllocGlobal + Threads + Wait + Sync, S: Fold>(
 }
 
 // Whether a run over this ledger file and folder ends as the case says.
-pub(crate) fn ends_over<R: AllocGlobal + Threads + Wait + Sync, S: Fold>(
+pub(crate) fn ends_over<R: AllocGlobal + Threads + Clock + Wait + Sync, S: Fold>(
     rt: &R,
     file: &mut LedgerFile<S>,
     folder: &mut MemoryFolder,
@@ -230,7 +231,7 @@ pub(crate) fn ends_over<R: AllocGlobal + Threads + Wait + Sync, S: Fold>(
 }
 
 // The same over its own ledger file.
-pub(crate) fn ends_in<R: AllocGlobal + Threads + Wait + Sync>(
+pub(crate) fn ends_in<R: AllocGlobal + Threads + Clock + Wait + Sync>(
     rt: &R,
     folder: &mut MemoryFolder,
     case: &Case,
@@ -242,7 +243,7 @@ pub(crate) fn ends_in<R: AllocGlobal + Threads + Wait + Sync>(
 }
 
 // The same over the case's folder.
-pub(crate) fn ends<R: AllocGlobal + Threads + Wait + Sync>(rt: &R, case: &Case) -> bool {
+pub(crate) fn ends<R: AllocGlobal + Threads + Clock + Wait + Sync>(rt: &R, case: &Case) -> bool {
     match folder_of(rt.alloc(), case.folder) {
         Some(mut folder) => ends_in(rt, &mut folder, case),
         None => false,

@@ -13,6 +13,7 @@ use sealer_core::OpenOptions;
 use std::alloc::{AllocError, Global};
 use std::sync::Wait;
 use std::thread::Threads;
+use std::time::Clock;
 
 #[derive(Clone, Copy, PartialEq, Eq)]
 enum Work {
@@ -49,7 +50,7 @@ struct Ended {
 }
 
 // The status of `open_all` or `verify_all` over a folder with a failing call.
-fn status_of_opening<R: AllocGlobal + Threads + Sync>(
+fn status_of_opening<R: AllocGlobal + Threads + Clock + Sync>(
     rt: &R,
     folder: &mut Failing,
     run: &Run,
@@ -68,7 +69,7 @@ fn status_of_opening<R: AllocGlobal + Threads + Sync>(
     open_over(rt, folder, &options, verifies, out)
 }
 
-fn status_of<R: AllocGlobal + Threads + Wait + Sync>(
+fn status_of<R: AllocGlobal + Threads + Clock + Wait + Sync>(
     rt: &R,
     folder: &mut Failing,
     run: &Run,
@@ -101,7 +102,7 @@ fn is_read_once(work: Work) -> bool {
 }
 
 // The run in which the call with this number fails.
-fn run_failing<R: AllocGlobal + Threads + Wait + Sync>(
+fn run_failing<R: AllocGlobal + Threads + Clock + Wait + Sync>(
     rt: &R,
     run: &Run,
     number: u64,
@@ -277,7 +278,7 @@ fn is_right(alloc: Global, run: &Run, ended: &Ended) -> Option<bool> {
 }
 
 // How many calls there are, if the run ends as expected whichever of them fails.
-fn calls_of<R: AllocGlobal + Threads + Wait + Sync>(rt: &R, run: &Run) -> Option<u64> {
+fn calls_of<R: AllocGlobal + Threads + Clock + Wait + Sync>(rt: &R, run: &Run) -> Option<u64> {
     for number in 0..1_000u64 {
         let ended = run_failing(rt, run, number)?;
         if is_right(rt.alloc(), run, &ended) != Some(true) {
@@ -291,7 +292,7 @@ fn calls_of<R: AllocGlobal + Threads + Wait + Sync>(rt: &R, run: &Run) -> Option
 }
 
 // Whether there are at least `least` calls, and the run ends as expected whichever of them fails.
-fn holds_at_each_call<R: AllocGlobal + Threads + Wait + Sync>(
+fn holds_at_each_call<R: AllocGlobal + Threads + Clock + Wait + Sync>(
     rt: &R,
     run: &Run,
     least: u64,
@@ -344,7 +345,7 @@ static TWOS: [u8; 262_144] = [2; 262_144];
 static LONG: [u8; 262_145] = [3; 262_145];
 
 // Six files with two lanes, in groups of two.
-fn holds_in_groups<R: AllocGlobal + Threads + Wait + Sync>(rt: &R) -> bool {
+fn holds_in_groups<R: AllocGlobal + Threads + Clock + Wait + Sync>(rt: &R) -> bool {
     let folder: [(&str, &[u8]); 4] = [("a", &ONES), ("b", &TWOS), ("c", b"333"), ("long", &LONG)];
     let results: [(&str, &[u8], &str); 6] = [
         ("a.stm", &ONES, ""),
@@ -410,7 +411,10 @@ fn by_workers<'a>(run: &Run<'a>, work: Work) -> Run<'a> {
 
 // Whether the run ends as expected for files that can be read again, and for files that can't. A second reading has
 // more calls.
-fn holds_for_both_files<R: AllocGlobal + Threads + Wait + Sync>(rt: &R, workers: u32) -> bool {
+fn holds_for_both_files<R: AllocGlobal + Threads + Clock + Wait + Sync>(
+    rt: &R,
+    workers: u32,
+) -> bool {
     let again = Work::Open {
         workers,
         once: false,

@@ -8,6 +8,7 @@ use sealer_core::{Folder, FolderFault, UnpipeOptions, unpipe_all};
 use std::alloc::Global;
 use std::marker::Brand;
 use std::thread::Threads;
+use std::time::Clock;
 
 /// An input. Its first reading gives some bytes, and each later one the same, or none where a spool is to be read
 /// instead. Going back is a call of a spool.
@@ -236,7 +237,7 @@ pub(crate) struct Ended {
 }
 
 /// Opens the file `a.stm` of a folder. `None` if memory is refused, or the number of workers is wrong.
-pub(crate) fn run_in<R: AllocGlobal + Threads + Sync, F: Folder>(
+pub(crate) fn run_in<R: AllocGlobal + Threads + Clock + Sync, F: Folder>(
     rt: &R,
     folder: &mut F,
     how: &How,
@@ -273,7 +274,7 @@ pub(crate) fn run_in<R: AllocGlobal + Threads + Sync, F: Folder>(
 }
 
 /// Opens an input that is the file `a.stm` of its folder; `None` as above.
-pub(crate) fn run_over<R: AllocGlobal + Threads + Sync, I: FileReader + Drop>(
+pub(crate) fn run_over<R: AllocGlobal + Threads + Clock + Sync, I: FileReader + Drop>(
     rt: &R,
     input: Option<I>,
     how: &How,
@@ -315,7 +316,7 @@ pub(crate) fn is_end(ended: &Ended, plain: &[u8], end: &End) -> bool {
 }
 
 /// Whether an input that gives these bytes once, `step` a call, is opened so.
-pub(crate) fn ends_once<R: AllocGlobal + Threads + Sync>(
+pub(crate) fn ends_once<R: AllocGlobal + Threads + Clock + Sync>(
     rt: &R,
     bytes: &[u8],
     plain: &[u8],
@@ -332,7 +333,7 @@ pub(crate) fn ends_once<R: AllocGlobal + Threads + Sync>(
 }
 
 /// Whether an input with these two readings is opened so.
-pub(crate) fn ends_twice<R: AllocGlobal + Threads + Sync>(
+pub(crate) fn ends_twice<R: AllocGlobal + Threads + Clock + Sync>(
     rt: &R,
     (first, later): (&[u8], &[u8]),
     plain: &[u8],

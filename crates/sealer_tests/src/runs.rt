@@ -15,6 +15,7 @@ use sqlite::{Connection, MemStore};
 use std::alloc::{AllocError, Global};
 use std::sync::Wait;
 use std::thread::Threads;
+use std::time::Clock;
 
 const COUNTING: [u8; 32] = [
     0, 1, 2, 3, 4, 5, 6, 7, 8, 9, 10, 11, 12, 13, 14, 15, 16, 17, 18, 19, 20, 21, 22, 23, 24, 25,
@@ -268,7 +269,7 @@ pub(crate) fn seal_shaped<R: AllocGlobal + Threads + Wait + Sync, S: Fold, F: Se
 }
 
 // The status of `open_all` or `verify_all` with that key; `None` if the options are invalid.
-pub(crate) fn open_over<R: AllocGlobal + Threads + Sync, F: OpeningFolder>(
+pub(crate) fn open_over<R: AllocGlobal + Threads + Clock + Sync, F: OpeningFolder>(
     rt: &R,
     folder: &mut F,
     options: &OpenOptions,

@@ -6,6 +6,7 @@ use folder_memory::Pace;
 use io_memory::Schedule;
 use std::sync::Wait;
 use std::thread::Threads;
+use std::time::Clock;
 
 // What a row shows, and its case.
 static CASES: [(&str, Case); 11] = [
@@ -338,7 +339,7 @@ static PAIRS: [(&str, &str, Case, Case); 2] = [
 ];
 
 // Whether two runs in a row over a ledger file after these statements end as expected, in the folder of the first.
-fn both_end<R: AllocGlobal + Threads + Wait + Sync>(
+fn both_end<R: AllocGlobal + Threads + Clock + Wait + Sync>(
     rt: &R,
     sql: &str,
     first: &Case,

@@ -6,6 +6,7 @@ use crate::unpipes::{pattern, sealed_as};
 use io_memory::Schedule;
 use std::alloc::Global;
 use std::thread::Threads;
+use std::time::Clock;
 
 // The SHA-256 of the container of 196,609 bytes i modulo 251 for file 0, from Python's `cryptography` and `hashlib`: 48
 // chunks of 4,096 bytes and one of a byte, with the label `db dump`.
@@ -37,7 +38,7 @@ fn is_failed(alloc: Global, calls: &Calls, ended: &Ended, plain: &[u8]) -> bool 
 }
 
 // The run in which the call with this number fails, of an input that can be read once or again.
-fn run_failing<R: AllocGlobal + Threads + Sync>(
+fn run_failing<R: AllocGlobal + Threads + Clock + Sync>(
     rt: &R,
     sealed: &[u8],
     how: &How,
@@ -55,7 +56,7 @@ fn run_failing<R: AllocGlobal + Threads + Sync>(
 
 // Whether the run in which the call with this number fails ends with its fault, or opens the input if no call fails.
 // Then there are `Some(false)` more calls.
-fn ends_at<R: AllocGlobal + Threads + Sync>(
+fn ends_at<R: AllocGlobal + Threads + Clock + Sync>(
     rt: &R,
     sealed: &[u8],
     plain: &[u8],
@@ -84,7 +85,7 @@ fn ends_at<R: AllocGlobal + Threads + Sync>(
 }
 
 // How many calls there are, if the run ends as expected whichever of them fails.
-fn calls_of<R: AllocGlobal + Threads + Sync>(
+fn calls_of<R: AllocGlobal + Threads + Clock + Sync>(
     rt: &R,
     sealed: &[u8],
     plain: &[u8],
@@ -100,7 +101,11 @@ fn calls_of<R: AllocGlobal + Threads + Sync>(
 }
 
 // How many calls there are of the container of many chunks.
-fn calls_of_many<R: AllocGlobal + Threads + Sync>(rt: &R, workers: u32, once: bool) -> Option<u64> {
+fn calls_of_many<R: AllocGlobal + Threads + Clock + Sync>(
+    rt: &R,
+    workers: u32,
+    once: bool,
+) -> Option<u64> {
     let plain = pattern(rt.alloc(), LENGTH)?;
     let sealed = sealed_as(rt.alloc(), plain.as_slice(), true, 0, &MANY_CHUNKS)?;
     calls_of(rt, sealed.as_slice(), plain.as_slice(), workers, once)
@@ -127,7 +132,7 @@ fn each_call_fails_while_an_input_is_opened_that_can_be_read_again(rt: HostRunti
 // ---- a spool that fails
 
 // Call 1 is the first of the spool: what the first read gave.
-fn is_spool_failure_late<R: AllocGlobal + Threads + Sync>(rt: &R) -> bool {
+fn is_spool_failure_late<R: AllocGlobal + Threads + Clock + Sync>(rt: &R) -> bool {
     let spool = refused(b"failed a.stm: spool failed\n");
     let damage = refused(b"failed a.stm: chunk 0 does not check\n");
     let label = refused(b"failed a.stm: another label\n");
@@ -161,7 +166,7 @@ fn a_spool_that_failed_is_told_only_of_what_would_be_opened(rt: HostRuntime) {
 // ---- a stream that fails
 
 // Whether exactly this many bytes are written where the stream takes no more.
-fn stops_after<R: AllocGlobal + Threads + Sync>(
+fn stops_after<R: AllocGlobal + Threads + Clock + Sync>(
     rt: &R,
     sealed: &[u8],
     plain: &[u8],
@@ -182,7 +187,7 @@ fn stops_after<R: AllocGlobal + Threads + Sync>(
 // None, one, all of a window but a byte, a window, and all but the last.
 static TAKEN: [usize; 6] = [0, 1, 65_535, 65_536, 65_537, LENGTH - 1];
 
-fn stops_after_each<R: AllocGlobal + Threads + Sync>(rt: &R, workers: u32) -> Option<bool> {
+fn stops_after_each<R: AllocGlobal + Threads + Clock + Sync>(rt: &R, workers: u32) -> Option<bool> {
     let plain = pattern(rt.alloc(), LENGTH)?;
     let sealed = sealed_as(rt.alloc(), plain.as_slice(), true, 0, &MANY_CHUNKS)?;
     for bytes in &TAKEN {

@@ -12,6 +12,7 @@ use sqlite_disk::{Disk, Fuse, Memory};
 use std::alloc::Global;
 use std::sync::Wait;
 use std::thread::Threads;
+use std::time::Clock;
 
 // All files here stop at some call, except those that must go on: they stop at none.
 type Stopping = Fuse<Memory>;
@@ -68,7 +69,7 @@ pub(crate) enum Next<'a> {
 }
 
 // What a run leaves of this connection's files, if it ends as expected.
-fn left_after<R: AllocGlobal + Threads + Wait + Sync, S: Fold>(
+fn left_after<R: AllocGlobal + Threads + Clock + Wait + Sync, S: Fold>(
     rt: &R,
     conn: Connection<S>,
     folder: &mut MemoryFolder,
@@ -83,7 +84,7 @@ fn left_after<R: AllocGlobal + Threads + Wait + Sync, S: Fold>(
 }
 
 // The database file that a run with this file and an empty log leaves, if it ends as expected.
-fn database_after<R: AllocGlobal + Threads + Wait + Sync>(
+fn database_after<R: AllocGlobal + Threads + Clock + Wait + Sync>(
     rt: &R,
     db: Stopping,
     folder: &mut MemoryFolder,
@@ -98,7 +99,7 @@ fn database_after<R: AllocGlobal + Threads + Wait + Sync>(
 
 // Whether two runs end as expected. The second has the database file that the first leaves. Streams don't look at the
 // folder.
-pub(crate) fn both_run<R: AllocGlobal + Threads + Wait + Sync>(
+pub(crate) fn both_run<R: AllocGlobal + Threads + Clock + Wait + Sync>(
     rt: &R,
     folder: &mut MemoryFolder,
     first: Next,
@@ -145,7 +146,7 @@ fn second_run<'a>(left: &'a [(&'a str, Left<'a>)]) -> Case<'a> {
     }
 }
 
-fn goes_on_without_log<R: AllocGlobal + Threads + Wait + Sync>(rt: &R) -> Option<bool> {
+fn goes_on_without_log<R: AllocGlobal + Threads + Clock + Wait + Sync>(rt: &R) -> Option<bool> {
     let plain = vec![in rt.alloc(); 7u8; 65_537].ok()?;
     let mut folder = folder_of(rt.alloc(), &[("a", b""), ("b", plain.as_slice())])?;
     let left = [("b.stm", Left::Holds(3, plain.as_slice()))];
@@ -174,7 +175,7 @@ enum End {
 }
 
 // The end of `seal_all` with a file, or of `pipe_all` with a stream.
-fn end_over<R: AllocGlobal + Threads + Wait + Sync, S: Fold>(
+fn end_over<R: AllocGlobal + Threads + Clock + Wait + Sync, S: Fold>(
     rt: &R,
     file: &mut LedgerFile<S>,
     pipes: bool,
@@ -209,7 +210,7 @@ fn end_of(status: u8, folder: &MemoryFolder, out: &MemoryOuts) -> End {
 }
 
 // The end of a run over this connection.
-fn end_of_run<R: AllocGlobal + Threads + Wait + Sync, S: Fold>(
+fn end_of_run<R: AllocGlobal + Threads + Clock + Wait + Sync, S: Fold>(
     rt: &R,
     conn: Connection<S>,
     pipes: bool,
@@ -221,7 +222,7 @@ fn end_of_run<R: AllocGlobal + Threads + Wait + Sync, S: Fold>(
 }
 
 // The end of a run whose two files fail each call after the first `log_calls` and `db_calls`.
-fn end_after<R: AllocGlobal + Threads + Wait + Sync>(
+fn end_after<R: AllocGlobal + Threads + Clock + Wait + Sync>(
     rt: &R,
     log_calls: u64,
     db_calls: u64,
@@ -236,7 +237,7 @@ fn end_after<R: AllocGlobal + Threads + Wait + Sync>(
 }
 
 // How many runs were refused before the first that sealed, or `None` if one ended otherwise.
-fn refused_before<R: AllocGlobal + Threads + Wait + Sync>(
+fn refused_before<R: AllocGlobal + Threads + Clock + Wait + Sync>(
     rt: &R,
     of_log: bool,
     pipes: bool,
@@ -259,7 +260,11 @@ fn refused_before<R: AllocGlobal + Threads + Wait + Sync>(
 }
 
 // Whether some runs are refused, and each ends in one of these ways.
-fn are_refused<R: AllocGlobal + Threads + Wait + Sync>(rt: &R, of_log: bool, pipes: bool) -> bool {
+fn are_refused<R: AllocGlobal + Threads + Clock + Wait + Sync>(
+    rt: &R,
+    of_log: bool,
+    pipes: bool,
+) -> bool {
     match refused_before(rt, of_log, pipes) {
         Some(refused) => refused > 0,
         None => false,

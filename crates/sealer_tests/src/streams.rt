@@ -7,6 +7,7 @@ use io_memory::Schedule;
 use reserve_core::{Fold, LedgerFile};
 use std::sync::Wait;
 use std::thread::Threads;
+use std::time::Clock;
 
 // The container of the empty plaintext under number 0.
 const EMPTY: [u8; 41] = [
@@ -202,7 +203,7 @@ static UNDER_NUMBER_1: Run = Run {
 };
 
 // Whether the run after this one has number 1, and both end as expected.
-fn is_followed<R: AllocGlobal + Threads + Wait + Sync>(rt: &R, first: &Run) -> bool {
+fn is_followed<R: AllocGlobal + Threads + Clock + Wait + Sync>(rt: &R, first: &Run) -> bool {
     let mut folder = MemoryFolder::new(rt.alloc());
     let (first, second) = (Next::Stream(first), Next::Stream(&UNDER_NUMBER_1));
     both_run(rt, &mut folder, first, second)

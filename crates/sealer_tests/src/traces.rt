@@ -8,6 +8,7 @@ use io_memory::Schedule;
 use sealer_core::FolderFault;
 use std::sync::Wait;
 use std::thread::Threads;
+use std::time::Clock;
 
 /// An expected event.
 #[derive(Clone, Copy)]
@@ -81,7 +82,11 @@ pub(crate) fn tells(folder: &MemoryFolder, seen: &[Seen]) -> bool {
 }
 
 // Whether the run over the case's folder ends as the case says, and exactly this happened there.
-fn goes<R: AllocGlobal + Threads + Wait + Sync>(rt: &R, case: &Case, seen: &[Seen]) -> bool {
+fn goes<R: AllocGlobal + Threads + Clock + Wait + Sync>(
+    rt: &R,
+    case: &Case,
+    seen: &[Seen],
+) -> bool {
     match folder_of(rt.alloc(), case.folder) {
         Some(mut folder) => ends_in(rt, &mut folder, case) && tells(&folder, seen),
         None => false,

@@ -12,6 +12,7 @@ use sealer_core::OpenOptions;
 use sha2::{Digest, Sha256};
 use std::alloc::Global;
 use std::thread::Threads;
+use std::time::Clock;
 
 const MOST: usize = usize::MAX;
 
@@ -163,7 +164,7 @@ static LABELS: [(Option<&[u8]>, bool, bool); 5] = [
 ];
 
 // Whether a container is opened to this plaintext, by one reading and a spool, and by two readings. `line` says so.
-fn is_opened<R: AllocGlobal + Threads + Sync>(
+fn is_opened<R: AllocGlobal + Threads + Clock + Sync>(
     rt: &R,
     sealed: &[u8],
     plain: &[u8],
@@ -182,7 +183,7 @@ fn is_opened<R: AllocGlobal + Threads + Sync>(
 }
 
 // Whether neither opens it, since it has another label.
-fn is_refused<R: AllocGlobal + Threads + Sync>(
+fn is_refused<R: AllocGlobal + Threads + Clock + Sync>(
     rt: &R,
     sealed: &[u8],
     plain: &[u8],
@@ -195,7 +196,7 @@ fn is_refused<R: AllocGlobal + Threads + Sync>(
 }
 
 // Whether `open_all` opens a container in a folder to this plaintext.
-fn is_opened_in_folder<R: AllocGlobal + Threads + Sync>(
+fn is_opened_in_folder<R: AllocGlobal + Threads + Clock + Sync>(
     rt: &R,
     sealed: &[u8],
     plain: &[u8],
@@ -217,7 +218,7 @@ fn is_opened_in_folder<R: AllocGlobal + Threads + Sync>(
 }
 
 // Whether a container is opened, and with each label as it should.
-fn is_opened_by<R: AllocGlobal + Threads + Sync>(
+fn is_opened_by<R: AllocGlobal + Threads + Clock + Sync>(
     rt: &R,
     sealed: &[u8],
     plain: &[u8],
@@ -246,7 +247,7 @@ fn is_opened_by<R: AllocGlobal + Threads + Sync>(
 }
 
 // Whether the container of this many bytes is opened, by one worker and by four.
-fn opens<R: AllocGlobal + Threads + Sync>(
+fn opens<R: AllocGlobal + Threads + Clock + Sync>(
     rt: &R,
     is_two: bool,
     count: usize,
@@ -362,7 +363,7 @@ static IN_FOLDER: [InFolder; 6] = [
 ];
 
 // Whether the run over such a folder ends so, and exactly this happened there.
-fn goes_in_folder<R: AllocGlobal + Threads + Sync>(rt: &R, row: &InFolder) -> Option<bool> {
+fn goes_in_folder<R: AllocGlobal + Threads + Clock + Sync>(rt: &R, row: &InFolder) -> Option<bool> {
     let mut folder = folder_of(rt.alloc(), &[(row.name, row.sealed)])?;
     folder.refuse_call(row.failing);
     let ended = run_in(rt, &mut folder, &STEADY, &Calls::steady())?;
@@ -386,7 +387,7 @@ fn an_opening_to_a_stream_does_this_in_the_folder_and_nothing_else(rt: HostRunti
 // ---- no input, and lines
 
 // Whether an input that couldn't be opened has its line.
-fn is_not_there<R: AllocGlobal + Threads + Sync>(rt: &R) -> bool {
+fn is_not_there<R: AllocGlobal + Threads + Clock + Sync>(rt: &R) -> bool {
     let ended = run_over::<R, Input<'_>>(rt, None, &STEADY, &Calls::steady());
     match ended {
         Some(ended) => is_end(&ended, b"", &refused(b"failed a.stm: cannot open\n")),
@@ -408,7 +409,7 @@ static UNTOLD: How = How {
 };
 
 // Whether the status is 2 if the line can't be written, and the plaintext is written all the same.
-fn is_untold<R: AllocGlobal + Threads + Sync>(rt: &R) -> bool {
+fn is_untold<R: AllocGlobal + Threads + Clock + Sync>(rt: &R) -> bool {
     let calls = Calls::steady();
     let opened = End {
         status: 2,
