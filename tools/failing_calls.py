@@ -60,6 +60,8 @@ FAULTS.update({call: ("error=ENOMEM",) for call in ("mmap", "mremap", "munmap", 
 FAULTS["brk"] = ("retval=0",)
 # The loader's and the threads', neither on files nor on memory: the program is only killed at these.
 OTHERS = "execve access arch_prctl set_tid_address set_robust_list rseq prlimit64 getrandom futex rt_sigaction rt_sigprocmask exit exit_group".split()
+# Workers that look for a round make these any number of times, and they do nothing.
+PASSED_OVER = ("sched_yield", "clock_nanosleep")
 # An error of these can't be passed over. A FILE in which the first lseek fails is read once, or kept.
 MUST_SHOW = {call: ("error=EIO", "error=ENOSPC") for call in ("read", "write")}
 # `long` has more than 2 MiB, so it is worth two workers to `open` and `verify`, and has more than one round.
@@ -138,7 +140,8 @@ class Way:
             if not found:
                 continue
             begun = begun or f'"{key}"' in line and found[2] == "openat" or found[2] == "read" and "read(0," in line
-            own[found[1], found[2]] += 1
+            if found[2] not in PASSED_OVER:
+                own[found[1], found[2]] += 1
             if not begun:
                 early[found[2]] += 1
         most = Counter()

@@ -27,8 +27,8 @@ asked = asked.parse_args()
 SMALL, MANY = 4, 10_000
 # How many bytes are read and written at a time where only that is timed.
 PIECE = 1 << 16
-# In KiB: the least file for which a lane is started; the bytes for which `verify` and `open` start a worker, and those of a round.
-LANE, SHARE, ROUND = 256, 1024, 1024
+# In KiB: the least file for which a lane is started, and the bytes for which `verify` and `open` start a worker.
+LANE, SHARE = 256, 1024
 STARTER = Path(__file__).resolve().with_name("thread_start.c")
 os.chdir(asked.folder)
 Path("key").write_text("5a" * 32 + "\n", encoding="ascii")
@@ -112,7 +112,7 @@ def starts(name, size, count):
         return count, max(min(int(several), size // 64), 1) - 1
     if command in ("verify", "open"):
         readings = 2 if command == "open" else 1
-        return readings * count * -(-size // ROUND), max(min(int(several), size // SHARE), 1) - 1
+        return readings * count, max(min(int(several), size // SHARE), 1) - 1
     return 0, 0
 
 

@@ -736,10 +736,10 @@ sealed files/b file 1 bytes 1492' ''
     head -c 262144 /dev/zero > files/e
     started --workers 4 files/e
     is workers-of-a-file test "$status $(grep -c 'clone3\?(' calls)" = '0 3'
-    # A file that is checked has at most a worker for each MiB of its container, the caller's thread among them, anew in each round of a MiB.
+    # A file that is checked has at most a worker for each MiB of its container, the caller's thread among them. They last for a reading.
     for bytes in 2096000 2096800 4193600; do head -c $bytes /dev/zero > files/g$bytes; done
     run seal --key "$key" --ledger files/l --device 1 files/g*
-    for words in 'verify 2096000 0' 'verify 2096800 2' 'verify 4193600 12' 'unpipe 2096000 0' 'unpipe 2096800 4' 'unpipe 4193600 24'; do
+    for words in 'verify 2096000 0' 'verify 2096800 1' 'verify 4193600 3' 'unpipe 2096000 0' 'unpipe 2096800 2' 'unpipe 4193600 6'; do
         read -r command bytes threads <<< "$words"
         strace -f -e trace=clone,clone3 -o calls "$sealer" "$command" --key "$key" --workers 4 "files/g$bytes.stm" > out 2> err; status=$?
         is "workers-of-a-check $words" test "$status $(grep -c 'clone3\?(' calls)" = "0 $threads"

@@ -1,7 +1,6 @@
 #!/bin/bash
 # Runs the built program on small inputs under valgrind. Memcheck finds no invalid read or write, no use of uninitialized memory, and no leak.
-# Helgrind and drd find no race of lanes, nor of workers that open or check; nothing is suppressed. Status, lines and files are those of a run
-# without valgrind. Prints 'N runs under valgrind as they should be', or what differs. Without valgrind it says so and exits with status 0, and
+# Helgrind and drd find no race of lanes; nothing is suppressed. Status, lines and files are those of a run without valgrind. Prints 'N runs under valgrind as they should be', or what differs. Without valgrind it says so and exits with status 0, and
 # under CI it fails. The program is crates/sealer/out/sealer, or $SEALER.
 set -u
 cd "$(dirname "$0")/.."
@@ -85,19 +84,19 @@ input=$room/given/long.stm limited unpipe memcheck 0 unpipe --key "$key"
 input=$room/given/damaged.stm limited unpipe-what-does-not-check memcheck 1 unpipe --key "$key" --workers 2
 limited unpipe-a-file memcheck 0 unpipe --key "$key" --workers 2 long.stm
 input=$room/spooled/zeros.stm limited unpipe-by-a-spool memcheck 0 unpipe --key "$key" --spool .
-# The workers that seal a stream or a file share jobs and pieces through two queues without locks. Helgrind and drd don't see the order in
-# their plain loads and stores, and report each job and piece as a race. So these run under memcheck alone.
+# Workers share jobs, pieces and rounds through words without locks. Helgrind and drd don't see the order in their plain loads and stores, and
+# report each of them as a race. So these run under memcheck alone.
 for depth in 1 3; do
     input=$room/given/plain limited pipe-by-workers-$depth memcheck 0 "${piping[@]}" --workers 2 --depth $depth
 done
 for window in 1 2; do
     limited seal-by-workers-$window memcheck 0 "${sealing[@]}" --workers 2 --window $window plain small
 done
+limited open-by-workers memcheck 1 open --key "$key" --workers 2 long.stm damaged.stm
+limited verify-by-workers memcheck 1 verify --key "$key" --workers 2 damaged.stm long.stm
+input=$room/given/long.stm limited unpipe-by-workers memcheck 0 unpipe --key "$key" --workers 2
 for tool in memcheck helgrind drd; do
     limited seal-by-lanes-$tool $tool 1 "${sealing[@]}" --lanes 2 a none b c
-    limited open-by-workers-$tool $tool 1 open --key "$key" --workers 2 long.stm damaged.stm
-    limited verify-by-workers-$tool $tool 1 verify --key "$key" --workers 2 damaged.stm long.stm
-    input=$room/given/long.stm limited unpipe-by-workers-$tool $tool 0 unpipe --key "$key" --workers 2
 done
 wait
 bad=0
