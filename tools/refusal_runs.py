@@ -83,6 +83,7 @@ class Kind:
     whole: bytes = b""  # what `unpipe` writes if nothing is refused
     last: int = 0  # if not 0, only this many of the last allocations are refused
     told: str = ""  # a text that some run must print where one allocation alone is refused
+    heals: int = 0  # it does without this many of its allocations at least: with one of them alone refused a run answers as with none
 
     @property
     def status(self):
@@ -121,7 +122,7 @@ class Checker:
 
     def __init__(self, made, shared):
         self.made, self.shared = made, shared
-        self.count, self.bad, self.seen = 0, [], set()
+        self.count, self.bad, self.seen, self.healed = 0, [], set(), 0
 
     def differs(self, what):
         self.bad.append(f"{self.what}: {what}: {self.out} {self.err} status {self.status}")
@@ -149,6 +150,7 @@ class Checker:
         self.status = ran.returncode
         met = [line for line in told if line.startswith("refused ")]
         self.seen.update(self.out, self.err, met)
+        self.healed += bool(met) and self.status == kind.status
         self.answer(kind, which, bool(met))
         if kind.words[0] == "seal":
             self.sealed(kind)
@@ -369,9 +371,11 @@ def kinds(made):
     opened, good = (f"{word} long.stm bytes {len(FILES['long'])}" for word in ("opened", "good"))
     great_opened, great_good = (f"{word} great.stm bytes {len(FILES['great'])}" for word in ("opened", "good"))
     for workers in ("1", "2"):
-        by = ["--key", key, "--workers", workers]
-        yield Kind(f"open by {workers}", ["open", *by, "great.stm"], ["great.stm"], {"great.stm": great_stm}, 50, line=great_opened)
-        yield Kind(f"verify by {workers}", ["verify", *by, "great.stm"], ["great.stm"], {"great.stm": great_stm}, 40, line=great_good)
+        by, great = ["--key", key, "--workers", workers], {"great.stm": great_stm}
+        # Each of its 17 rounds that can't be shared is the first thread's alone.
+        heals = 17 if workers == "2" else 0
+        yield Kind(f"open by {workers}", ["open", *by, "great.stm"], ["great.stm"], great, 50, line=great_opened, heals=heals)
+        yield Kind(f"verify by {workers}", ["verify", *by, "great.stm"], ["great.stm"], great, 40, line=great_good, heals=heals)
     yield Kind("open a small one", ["open", "--key", key, "small.stm"], ["small.stm"], {"small.stm": numbers}, 40, line="opened small.stm bytes 1492")
     into = ["--key", key, "--into", ".", "long.stm"]
     yield Kind("open into a folder", ["open", *into], ["long.stm"], {"long.stm": long_stm}, 40, line=opened)
@@ -446,16 +450,18 @@ def main():
                 count += checker.count
                 bad += checker.bad
                 seen |= checker.seen
-                runs, least, told = ends.get((name, which), (0, end, set()))
-                ends[name, which] = (runs + checker.count, min(least, end), told | checker.seen)
+                runs, least, told, healed = ends.get((name, which), (0, end, set(), 0))
+                ends[name, which] = (runs + checker.count, min(least, end), told | checker.seen, healed + checker.healed)
     for kind in all_kinds:
         for which in kind.which:
-            runs, end, told = ends[kind.name, which]
+            runs, end, told, healed = ends[kind.name, which]
             print(f"{kind.name}: {runs} by {which}")
             if end <= (1 if which == "REFUSE_BEYOND" else kind.least) and not bad:
                 bad.append(f"{kind.name}, {which}: only {end - 1} allocations")
             if kind.told and every < 2 and which == "REFUSE" and kind.told not in told:
                 bad.append(f"{kind.name}: no refusal gives: {kind.told}")
+            if every < 2 and which == "REFUSE" and healed < kind.heals:
+                bad.append(f"{kind.name}: does without {healed} allocations alone")
             if kind.threads and every < 2 and which == "REFUSE" and "refused to another thread" not in told:
                 bad.append(f"{kind.name}: nothing was refused to another thread")
     if every < 2:

@@ -62,7 +62,7 @@ most_first most header window = min (longest most header + 1 - length header) (w
 -- the crew can open `bytes` bytes of a container's body, in chunks of `size` bytes, and put their pieces on the places
 pub record IsReady (task : Task) (size bytes : ℕ) (crew : LastingView) (places : PlacesView) : Type 0 where
   pub sizes : (crew.size ≡ room_of task size) × (places.size ≡ room_of task size)
-  pub rooms : (crew.room ≡ places.room) × (crew.spare ≡ places.room)
+  pub rooms : (crew.room ≡ places.room) × (crew.spare ≡ places.room) × (places.room ≤ crew.slots)
   pub enough : bytes ≤ places.room * (size + TAG)
 
 -- where what follows the header makes it open, what was taken begins the plaintext

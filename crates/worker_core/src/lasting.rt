@@ -5,9 +5,9 @@
 //! so a worker may be late: the round isn't given back before its last owner is the caller's thread. A worker without a
 //! round looks into its letter box, ever more rarely. Nobody waits as `Wait` means it: each loop ends, after 2^64 looks.
 ghost use Rattle.std.specs.Prelude.{◌≡◌, ◌+◌, ◌<◌, ◌≤◌, [], length, vec_capacity, IfOk, IfSome, OnOk};
-ghost use Rattle.std.specs.Arc.{arc_value};
 ghost use Rattle.std.specs.Thread.{IsSync};
 ghost use Rattle.worker_core.specs.Parts.{room_of};
+ghost use Rattle.worker_core.specs.Shared.{held_view};
 
 use crate::bench::buffers;
 use crate::filling::lay_out;
@@ -16,8 +16,10 @@ use crate::owned::OwnedRound;
 use crate::places::Places;
 use crate::resting::{look_again, rest_longer};
 use crate::shared::{Shared, make_drawn};
+use crate::slots::Slot;
 use claim_core::{Gate, MAX_WORKERS};
-use std::alloc::{AllocError, Global};
+use counted_slot::Counted;
+use std::alloc::{AllocError, AllocFailed, Global};
 use std::marker::Model;
 use std::mem;
 use std::sync::Arc;
@@ -26,40 +28,66 @@ use std::sync::atomic::Ordering::SeqCst;
 use std::thread::{Threads, join_mut};
 use std::time::Clock;
 
-/// The buffers of a crew, between its rounds. Contracts see how many pieces a round can have, how many bytes each, and
-/// how many buffers are spare.
+/// The buffers of a crew, between its rounds. Contracts see how many pieces a round can have, how many bytes each, how
+/// many buffers are spare, and for how many slots there is room.
 #[derive(Drop)]
 pub struct LastingCrew {
     room: u32,
     size: usize,
     spare: Vec<Vec<u8>>,
+    slots: Vec<Counted<Slot>>,
     hand: Vec<u8>,
 }
 
 impl Model for LastingCrew {
-    ghost use Rattle.std.specs.Prelude.{vec_len};
+    ghost use Rattle.std.specs.Prelude.{vec_len, vec_capacity};
     ghost use Rattle.worker_core.specs.Shared.{LastingView, IsLasting};
 
     ghost Value = { LastingView };
 
-    ghost view = { λ c. record { room = c.room; size = c.size; spare = vec_len c.spare } };
+    ghost view = { λ c. record {
+      room = c.room;
+      size = c.size;
+      spare = vec_len c.spare;
+      slots = vec_capacity c.slots;
+    } };
 
     ghost invariant = { IsLasting };
 }
 
-/// A round that is shared, and not finished. Contracts see the round, and how many bytes of room each piece has.
+// A round that workers may have too, or that is the caller's alone.
+#[derive(Drop)]
+pub(crate) enum Held<'a> {
+    Among(Arc<Shared<'a>, Global>),
+    Alone(Shared<'a>),
+}
+
+impl<'a> Held<'a> {
+    // The round.
+    #[tactic(auto, unfolding(crate::specs::Shared::held_view))]
+    fn shared(&self) -> &Shared<'a>
+        ensures { result.now.size ≡ (held_view self.now).size }
+    {
+        match self {
+            Held::Among(shared) => shared,
+            Held::Alone(shared) => shared,
+        }
+    }
+}
+
+/// A round that is shared, and not finished. Contracts see the round, how many bytes of room each piece has, and for how
+/// many slots there is room.
 #[derive(Drop)]
 pub struct Sharing<'a> {
-    shared: Arc<Shared<'a>, Global>,
+    held: Held<'a>,
 }
 
 impl<'a> Model for Sharing<'a> {
-    ghost use Rattle.std.specs.Arc.{arc_value};
-    ghost use Rattle.worker_core.specs.Shared.{SharingView};
+    ghost use Rattle.worker_core.specs.Shared.{SharingView, held_view};
 
     ghost Value = { SharingView };
 
-    ghost view = { λ s. record { owned = (arc_value s.shared).owned; size = (arc_value s.shared).size } };
+    ghost view = { λ s. held_view s.held };
 }
 
 // Looks into the letter box, and makes pieces of the rounds that come, until the crew ends.
@@ -171,11 +199,17 @@ pub fn with_workers<R: Threads + Clock + Sync, G: Gate + Sync, C: FnMut() -> A, 
     beside_workers(rt, alloc, boxes, &ended, size, gate, chore)
 }
 
-// What is shared, once this is its last owner. A worker is a piece behind at most, unless its gate holds it.
-fn taken_back(shared: Arc<Shared, Global>) -> Result<Shared, AllocError>
-    ensures { IfOk result (λ s. s ≡ arc_value shared.entry) }
+// The round, once this is its last owner. A worker is a piece behind at most, unless its gate holds it.
+#[tactic(auto, unfolding(crate::specs::Shared::held_view))]
+fn taken_back(held: Held) -> Result<Shared, AllocError>
+    ensures owned { IfOk result (λ s. s.owned ≡ (held_view held.entry).owned) }
+    ensures size { IfOk result (λ s. s.size ≡ (held_view held.entry).size) }
+    ensures slots { IfOk result (λ s. vec_capacity s.slots ≡ (held_view held.entry).slots) }
 {
-    let mut shared = shared;
+    let mut shared = match held {
+        Held::Among(shared) => shared,
+        Held::Alone(shared) => return Ok(shared),
+    };
     let mut looks = 0;
     'looking: for _ in 0..u64::MAX {
         match Arc::try_unwrap(shared) {
@@ -190,14 +224,17 @@ fn taken_back(shared: Arc<Shared, Global>) -> Result<Shared, AllocError>
 impl LastingCrew {
     /// Returns the buffers for rounds of at most `room` pieces of `size` bytes. `AllocError` if memory was refused.
     pub fn new(alloc: Global, room: u32, size: usize) -> Result<LastingCrew, AllocError>
-        ensures { IfOk result (λ crew. (crew.room ≡ room) × (crew.size ≡ size) × (crew.spare ≡ room)) }
+        ensures shape { IfOk result (λ crew. (crew.room ≡ room) × (crew.size ≡ size)) }
+        ensures spare { IfOk result (λ crew. (crew.spare ≡ room) × (room ≤ crew.slots)) }
     {
         let spare = buffers(alloc, room, size)?;
+        let slots = Vec::with_capacity(alloc, room as usize)?;
         let hand = Vec::with_capacity(alloc, size)?;
         Ok(LastingCrew {
             room,
             size,
             spare,
+            slots,
             hand,
         })
     }
@@ -209,30 +246,42 @@ impl LastingCrew {
         self.room
     }
 
-    /// Shares a round with the workers of these letter boxes. `AllocError` if memory was refused; then the round is
-    /// lost.
+    /// Shares a round with the workers of these letter boxes. Where there is none, or memory was refused, the round is the
+    /// caller's alone.
+    #[tactic(auto, unfolding(crate::specs::Shared::held_view))]
     pub fn share<'a>(
         &mut self,
         alloc: Global,
         round: OwnedRound<'a>,
         boxes: &[LetterBox<'a>],
-    ) -> Result<Sharing<'a>, AllocError>
+    ) -> Sharing<'a>
         requires count { length round.round.values ≤ self.old.spare }
+        requires slots { length round.round.values ≤ self.old.slots }
         requires size { room_of round.round.task round.round.size ≤ self.old.size }
-        ensures shared { IfOk result (λ sharing. (sharing.owned ≡ round.entry) × (sharing.size ≡ self.old.size)) }
-        ensures spare { OnOk result (self.new.spare + length round.entry.round.values ≡ self.old.spare) }
-        ensures room { self.new.room ≡ self.old.room }
-        ensures size { self.new.size ≡ self.old.size }
+        ensures shared { (result.owned ≡ round.entry) × (result.size ≡ self.old.size) }
+        ensures spare { self.new.spare + length round.entry.round.values ≡ self.old.spare }
+        ensures slots { self.old.slots ≤ result.slots }
+        ensures crew { (self.new.room ≡ self.old.room) × (self.new.size ≡ self.old.size) }
     {
         let count = round.round().count();
-        let mut slots = Vec::with_capacity(alloc, count as usize)?;
+        let mut slots = Vec::new(alloc);
+        mem::swap(&mut slots, &mut self.slots);
         lay_out(&mut slots, &mut self.spare, self.size, &round);
         let shared = Shared::of(round, self.size, slots);
-        let Ok(shared) = Arc::new(alloc, shared) else {
-            return Err(AllocError);
+        if boxes.is_empty() {
+            let held = Held::Alone(shared);
+            return Sharing { held };
+        }
+        let value = match Arc::new(alloc, shared) {
+            Ok(shared) => {
+                send(&shared, boxes, count);
+                let held = Held::Among(shared);
+                return Sharing { held };
+            }
+            Err(AllocFailed { value }) => value,
         };
-        send(&shared, boxes, count);
-        Ok(Sharing { shared })
+        let held = Held::Alone(value);
+        Sharing { held }
     }
 
     /// Finishes a round, and puts its pieces in their places. Returns the buffer with its bytes. `AllocError` if a
@@ -252,13 +301,14 @@ impl LastingCrew {
         ensures bytes { IfOk result (λ bytes. bytes.items ≡ sharing.entry.owned.bytes) }
         ensures capacity { IfOk result (λ bytes. vec_capacity bytes ≡ sharing.entry.owned.room) }
         ensures spare { OnOk result (self.new.spare ≡ self.old.spare + length sharing.entry.owned.round.values) }
+        ensures slots { OnOk result (sharing.entry.slots ≤ self.new.slots) }
         ensures crew { (self.new.room ≡ self.old.room) × (self.new.size ≡ self.old.size) }
         ensures places { (places.new.room ≡ places.old.room) × (places.new.size ≡ places.old.size) }
     {
-        let Sharing { shared } = sharing;
+        let Sharing { held } = sharing;
         let mut hand = Vec::new(alloc);
         mem::swap(&mut hand, &mut self.hand);
-        self.hand = make_drawn(&shared, 0, gate, hand);
+        self.hand = make_drawn(held.shared(), 0, gate, hand);
         for letters in boxes {
             letters.take();
         }
@@ -267,8 +317,9 @@ impl LastingCrew {
             size: _,
             mut slots,
             next: _,
-        } = taken_back(shared)?;
+        } = taken_back(held)?;
         places.take_slots(&owned.round(), &mut slots, &mut self.spare);
+        self.slots = slots;
         Ok(owned.into_bytes())
     }
 }

@@ -116,6 +116,8 @@ impl Places {
         ensures each { All (λ buffer. self.old.size ≤ vec_capacity buffer) spare.new.items }
         ensures count { vec_len spare.new ≡ vec_len spare.old + length round.now.values }
         ensures list { vec_capacity spare.old ≤ vec_capacity spare.new }
+        ensures none { slots.new.items ≡ [] }
+        ensures slots { vec_capacity slots.old ≤ vec_capacity slots.new }
     {
         clear_slots(slots, round, &mut self.pieces, spare, self.size);
         self.count = round.count();

@@ -8,7 +8,7 @@ use Rattle.container_core.specs.Cutting.{RefusesCut}
 use Rattle.container_core.proofs.OpeningLemmas.{some_size}
 use Rattle.opening_core.proofs.OpeningRounds.{count-last, count-room, cut-same, no-refusal}
 use Rattle.opening_core.proofs.SentLemmas.{front-behind, last-may}
-use Rattle.opening_core.proofs.windows.open_last.Goals as goal
+use Rattle.opening_core.proofs.rounds.open_last.Goals as goal
 
 pub unreachable-requires : goal.unreachable-requires
 unreachable-requires g c =
@@ -25,8 +25,8 @@ new-round-requires-clause-numbers g c =
     c.in-Ok.ensures.size (ap length c.held-length.ensures ∙ is) c.in-Ok.ensures.places in
     omega (arith, same, numbers)
 
-pub share-requires-clause-count : goal.share-requires-clause-count
-share-requires-clause-count g c =
+pub share-sharing-requires-clause-count : goal.share-sharing-requires-clause-count
+share-sharing-requires-clause-count g c =
     let size = size_in c.args.header.now in
     let held = c.args.rooms.now.current.held in
     let bytes = c.take_buffer-bytes.result.items in
@@ -40,6 +40,11 @@ share-requires-clause-count g c =
     let room = count-room size plain c.args.rooms.now.places.room (some_size c.args.header.now) (omega (arith, is, c.requires.ready.enough)) in
     omega (arith, values, made, room, c.requires.ready.rooms)
 
+pub share-sharing-requires-clause-slots : goal.share-sharing-requires-clause-slots
+share-sharing-requires-clause-slots g c =
+    let count = share-sharing-requires-clause-count g c in
+    omega (arith, count, c.requires.ready.rooms)
+
 pub returns-in-Ok-take_last-clause-opened : goal.returns-in-Ok-take_last-clause-opened
 returns-in-Ok-take_last-clause-opened g c =
     let key = c.args.key.now in
@@ -50,7 +55,7 @@ returns-in-Ok-take_last-clause-opened g c =
     let body : take (length c.held-length.result.now) bytes ≡ held =
     ap (λ h. take (length h) bytes) c.held-length.ensures ∙ c.take_buffer-bytes.ensures.held in
     let is : last ≡ values_of c.args.task key header c.args.first true held =
-    c.in-Ok-finished.ensures.values ∙ ap (λ o. o.round.values) c.in-Ok-share.ensures.shared.0 ∙ ap (λ r. r.values) c.new-round.ensures.round
+    c.in-Ok-finished.ensures.values ∙ ap (λ o. o.round.values) c.share-sharing.ensures.shared.0 ∙ ap (λ r. r.values) c.new-round.ensures.round
     ∙ ap (λ b. values_of c.args.task key header c.args.first true b) body in
     let opened = c.in-Ok-checked.ensures.opened key header held true is in
     (joined last, opened, Appends-trans _ _ _ (joined c.args.rooms.now.places.values) (joined last) c.in-Ok-taken.ensures.gathered.all c.in-Ok-take_last.ensures.gathered.all)
@@ -66,7 +71,7 @@ returns-clause-begun g c = λ opening.
     let body : take (length c.held-length.result.now) bytes ≡ held =
     ap (λ h. take (length h) bytes) c.held-length.ensures ∙ c.take_buffer-bytes.ensures.held in
     let is : last ≡ values_of c.args.task key header c.args.first true held =
-    c.in-Ok-finished.ensures.values ∙ ap (λ o. o.round.values) c.in-Ok-share.ensures.shared.0 ∙ ap (λ r. r.values) c.new-round.ensures.round
+    c.in-Ok-finished.ensures.values ∙ ap (λ o. o.round.values) c.share-sharing.ensures.shared.0 ∙ ap (λ r. r.values) c.new-round.ensures.round
     ∙ ap (λ b. values_of c.args.task key header c.args.first true b) body in
     let opened = c.in-Ok-checked.ensures.opened key header held true is in
     inr (
@@ -86,7 +91,7 @@ take_last-requires g c =
     let body : take (length c.held-length.result.now) bytes ≡ held =
     ap (λ h. take (length h) bytes) c.held-length.ensures ∙ c.take_buffer-bytes.ensures.held in
     let is : values ≡ values_of c.args.task key header c.args.first true held =
-    c.in-Ok-finished.ensures.values ∙ ap (λ o. o.round.values) c.in-Ok-share.ensures.shared.0 ∙ ap (λ r. r.values) c.new-round.ensures.round
+    c.in-Ok-finished.ensures.values ∙ ap (λ o. o.round.values) c.share-sharing.ensures.shared.0 ∙ ap (λ r. r.values) c.new-round.ensures.round
     ∙ ap (λ b. values_of c.args.task key header c.args.first true b) body in
     let opened = c.in-Ok-checked.ensures.opened key header held true is in
     record {
