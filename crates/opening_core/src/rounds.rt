@@ -172,7 +172,7 @@ pub(crate) fn open_full<'a, R: Source, G: Gate, O: Taking>(
     let sharing = crew.share(alloc, round, boxes);
     let turned = turn(alloc, reader, out, places, next, ahead, upto);
     // Also after a fault: a gate may wait for the other pieces.
-    let finished = crew.finish(alloc, sharing, boxes, gate, places);
+    let finished = crew.finish(alloc, sharing, gate, places);
     match turned {
         Ok(()) => {}
         Err(fault) => return Err(fault),
@@ -232,7 +232,7 @@ pub(crate) fn open_last<'a, G: Gate, O: Taking>(
     let round = OwnedRound::new(task, key, header, first, true, cut, bytes, length);
     let sharing = crew.share(alloc, round, boxes);
     let taken = out.take(alloc, places);
-    let finished = crew.finish(alloc, sharing, boxes, gate, places);
+    let finished = crew.finish(alloc, sharing, gate, places);
     match taken {
         Ok(()) => {}
         Err(fault) => return Err(fault),

@@ -209,9 +209,10 @@ pub(crate) fn open_body<'a, T: Threads + Clock + Sync, R: Source, G: Gate + Sync
         Ok(rooms) => rooms,
         Err(fault) => return Err(fault),
     };
-    // More workers than a round has pieces would have nothing to do.
-    let Ok(boxes) = letter_boxes(alloc, workers.min(rooms.crew.room()) - 1) else {
-        return Err(OpenFault::OutOfMemory);
+    // More workers than a round has pieces would have nothing to do. Without letter boxes there is one worker.
+    let boxes = match letter_boxes(alloc, workers.min(rooms.crew.room()) - 1) {
+        Ok(boxes) => boxes,
+        Err(AllocError) => Vec::new(alloc),
     };
     let room = task.room(header.chunk());
     let boxes = boxes.as_slice();

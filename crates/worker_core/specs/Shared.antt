@@ -2,7 +2,7 @@
 use Rattle.std.specs.Prelude.{◌≡◌, ℕ, ◌≤◌, [], All, vec_capacity}
 use Rattle.worker_core.specs.declared.lasting.LastingCrew.TheInside.{Inside as LastingCrew}
 use Rattle.std.specs.Arc.{arc_value}
-use Rattle.worker_core.specs.declared.lasting.Held.{Held}
+use Rattle.worker_core.specs.declared.lasting.Owners.{Owners}
 use Rattle.worker_core.specs.Owned.{OwnedView}
 
 -- how many pieces a round can have, how many bytes each, how many buffers for pieces are spare, and for how many slots
@@ -19,11 +19,11 @@ pub record SharingView : Type 0 where
   pub size : ℕ
   pub slots : ℕ
 
--- a round that workers may have or not, as contracts see it
-unfoldable pub held_view : Held → SharingView
-held_view (Held.Among shared) =
+-- a round of several owners or of one, as contracts see it
+unfoldable pub owners_view : Owners → SharingView
+owners_view (Owners.Several shared) =
     record { owned = (arc_value shared).owned; size = (arc_value shared).size; slots = vec_capacity (arc_value shared).slots }
-held_view (Held.Alone shared) = record { owned = shared.owned; size = shared.size; slots = vec_capacity shared.slots }
+owners_view (Owners.One shared) = record { owned = shared.owned; size = shared.size; slots = vec_capacity shared.slots }
 
 -- spare buffers are empty, each has room for a piece, and so has the one in hand; the list has room for all; no slot is
 -- laid out

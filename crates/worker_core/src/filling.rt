@@ -9,6 +9,7 @@ use crate::owned::OwnedRound;
 use crate::piece::{Made, Piece, exchange, push_within};
 use crate::round::Round;
 use crate::slots::Slot;
+use claim_core::Gate;
 use counted_slot::{Counted, FREE, PRESENT, TAKEN};
 
 /// Makes a slot for each piece of a round, with spare buffers.
@@ -76,8 +77,8 @@ pub(crate) fn fill(slot: &Counted<Slot>, round: &Round, number: u32, spare: Vec<
     bytes
 }
 
-// The piece of a slot. If it isn't there it is made in the slot's buffer.
-fn piece_in(slot: Counted<Slot>, size: usize, round: &Round, number: u32) -> Made
+// The piece of a slot. If it isn't there it is made in the slot's buffer, once the gate was passed.
+fn piece_in<G: Gate>(slot: Counted<Slot>, size: usize, round: &Round, number: u32, gate: &G) -> Made
     requires size { slot.size ≡ size }
     requires number { number < length round.now.values }
     requires value { expected_value slot ≡ slice_index_or round.now.values number None }
@@ -93,6 +94,7 @@ fn piece_in(slot: Counted<Slot>, size: usize, round: &Round, number: u32) -> Mad
             piece: held.piece,
         };
     }
+    gate.pass(0, round.chunk(number));
     let mut bytes = held.piece.bytes;
     let checks = round.make(number, &mut bytes);
     Made {
@@ -101,14 +103,15 @@ fn piece_in(slot: Counted<Slot>, size: usize, round: &Round, number: u32) -> Mad
     }
 }
 
-/// Puts the pieces of a round from its slots in their places, and makes those that are missing, which no run has. The buffers from the
-/// places become spare, and no slot is left.
-pub(crate) fn clear_slots(
+/// Puts the pieces of a round from its slots in their places, and makes those that are missing, which no run has. The
+/// buffers from the places become spare, and no slot is left.
+pub(crate) fn clear_slots<G: Gate>(
     slots: &mut Vec<Counted<Slot>>,
     round: &Round,
     pieces: &mut Vec<Piece>,
     spare: &mut Vec<Vec<u8>>,
     size: usize,
+    gate: &G,
 )
     requires slots { AreSlotsOf size round.now.values slots.old.items }
     requires places { length round.now.values ≤ vec_len pieces.old }
@@ -130,7 +133,7 @@ pub(crate) fn clear_slots(
     let mut number = round.count();
     'clearing: while let Some(slot) = slots.pop() {
         number -= 1;
-        let made = piece_in(slot, size, round, number);
+        let made = piece_in(slot, size, round, number, gate);
         push_within(spare, exchange(pieces, made));
     }
 }

@@ -7,7 +7,7 @@
 ghost use Rattle.std.specs.Prelude.{◌≡◌, ◌+◌, ◌<◌, ◌≤◌, [], length, vec_capacity, IfOk, IfSome, OnOk};
 ghost use Rattle.std.specs.Thread.{IsSync};
 ghost use Rattle.worker_core.specs.Parts.{room_of};
-ghost use Rattle.worker_core.specs.Shared.{held_view};
+ghost use Rattle.worker_core.specs.Shared.{owners_view};
 
 use crate::bench::buffers;
 use crate::filling::lay_out;
@@ -55,39 +55,40 @@ impl Model for LastingCrew {
     ghost invariant = { IsLasting };
 }
 
-// A round that workers may have too, or that is the caller's alone.
+// A round that workers own too, or the caller's thread alone.
 #[derive(Drop)]
-pub(crate) enum Held<'a> {
-    Among(Arc<Shared<'a>, Global>),
-    Alone(Shared<'a>),
+pub(crate) enum Owners<'a> {
+    Several(Arc<Shared<'a>, Global>),
+    One(Shared<'a>),
 }
 
-impl<'a> Held<'a> {
+impl<'a> Owners<'a> {
     // The round.
-    #[tactic(auto, unfolding(crate::specs::Shared::held_view))]
+    #[tactic(auto, unfolding(crate::specs::Shared::owners_view))]
     fn shared(&self) -> &Shared<'a>
-        ensures { result.now.size ≡ (held_view self.now).size }
+        ensures { result.now.size ≡ (owners_view self.now).size }
     {
         match self {
-            Held::Among(shared) => shared,
-            Held::Alone(shared) => shared,
+            Owners::Several(shared) => shared,
+            Owners::One(shared) => shared,
         }
     }
 }
 
-/// A round that is shared, and not finished. Contracts see the round, how many bytes of room each piece has, and for how
-/// many slots there is room.
+/// A round that is shared, and not finished, and the letter boxes that it was put into. Contracts see the round, how many
+/// bytes of room each piece has, and for how many slots there is room.
 #[derive(Drop)]
-pub struct Sharing<'a> {
-    held: Held<'a>,
+pub struct Sharing<'s, 'a> {
+    owners: Owners<'a>,
+    boxes: &'s [LetterBox<'a>],
 }
 
-impl<'a> Model for Sharing<'a> {
-    ghost use Rattle.worker_core.specs.Shared.{SharingView, held_view};
+impl<'s, 'a> Model for Sharing<'s, 'a> {
+    ghost use Rattle.worker_core.specs.Shared.{SharingView, owners_view};
 
     ghost Value = { SharingView };
 
-    ghost view = { λ s. held_view s.held };
+    ghost view = { λ s. owners_view s.owners };
 }
 
 // Looks into the letter box, and makes pieces of the rounds that come, until the crew ends.
@@ -200,15 +201,15 @@ pub fn with_workers<R: Threads + Clock + Sync, G: Gate + Sync, C: FnMut() -> A, 
 }
 
 // The round, once this is its last owner. A worker is a piece behind at most, unless its gate holds it.
-#[tactic(auto, unfolding(crate::specs::Shared::held_view))]
-fn taken_back(held: Held) -> Result<Shared, AllocError>
-    ensures owned { IfOk result (λ s. s.owned ≡ (held_view held.entry).owned) }
-    ensures size { IfOk result (λ s. s.size ≡ (held_view held.entry).size) }
-    ensures slots { IfOk result (λ s. vec_capacity s.slots ≡ (held_view held.entry).slots) }
+#[tactic(auto, unfolding(crate::specs::Shared::owners_view))]
+fn taken_back(owners: Owners) -> Result<Shared, AllocError>
+    ensures owned { IfOk result (λ s. s.owned ≡ (owners_view owners.entry).owned) }
+    ensures size { IfOk result (λ s. s.size ≡ (owners_view owners.entry).size) }
+    ensures slots { IfOk result (λ s. vec_capacity s.slots ≡ (owners_view owners.entry).slots) }
 {
-    let mut shared = match held {
-        Held::Among(shared) => shared,
-        Held::Alone(shared) => return Ok(shared),
+    let mut shared = match owners {
+        Owners::Several(shared) => shared,
+        Owners::One(shared) => return Ok(shared),
     };
     let mut looks = 0;
     'looking: for _ in 0..u64::MAX {
@@ -248,13 +249,13 @@ impl LastingCrew {
 
     /// Shares a round with the workers of these letter boxes. Where there is none, or memory was refused, the round is the
     /// caller's alone.
-    #[tactic(auto, unfolding(crate::specs::Shared::held_view))]
-    pub fn share<'a>(
+    #[tactic(auto, unfolding(crate::specs::Shared::owners_view))]
+    pub fn share<'s, 'a>(
         &mut self,
         alloc: Global,
         round: OwnedRound<'a>,
-        boxes: &[LetterBox<'a>],
-    ) -> Sharing<'a>
+        boxes: &'s [LetterBox<'a>],
+    ) -> Sharing<'s, 'a>
         requires count { length round.round.values ≤ self.old.spare }
         requires slots { length round.round.values ≤ self.old.slots }
         requires size { room_of round.round.task round.round.size ≤ self.old.size }
@@ -269,28 +270,27 @@ impl LastingCrew {
         lay_out(&mut slots, &mut self.spare, self.size, &round);
         let shared = Shared::of(round, self.size, slots);
         if boxes.is_empty() {
-            let held = Held::Alone(shared);
-            return Sharing { held };
+            let owners = Owners::One(shared);
+            return Sharing { owners, boxes };
         }
         let value = match Arc::new(alloc, shared) {
             Ok(shared) => {
                 send(&shared, boxes, count);
-                let held = Held::Among(shared);
-                return Sharing { held };
+                let owners = Owners::Several(shared);
+                return Sharing { owners, boxes };
             }
             Err(AllocFailed { value }) => value,
         };
-        let held = Held::Alone(value);
-        Sharing { held }
+        let owners = Owners::One(value);
+        Sharing { owners, boxes }
     }
 
     /// Finishes a round, and puts its pieces in their places. Returns the buffer with its bytes. `AllocError` if a
     /// worker hasn't let go of it after 2^64 looks, which no run lives to see.
-    pub fn finish<'a, G: Gate>(
+    pub fn finish<'s, 'a, G: Gate>(
         &mut self,
         alloc: Global,
-        sharing: Sharing<'a>,
-        boxes: &[LetterBox<'a>],
+        sharing: Sharing<'s, 'a>,
         gate: &G,
         places: &mut Places,
     ) -> Result<Vec<u8>, AllocError>
@@ -305,20 +305,18 @@ impl LastingCrew {
         ensures crew { (self.new.room ≡ self.old.room) × (self.new.size ≡ self.old.size) }
         ensures places { (places.new.room ≡ places.old.room) × (places.new.size ≡ places.old.size) }
     {
-        let Sharing { held } = sharing;
+        let Sharing { owners, boxes } = sharing;
         let mut hand = Vec::new(alloc);
         mem::swap(&mut hand, &mut self.hand);
-        self.hand = make_drawn(held.shared(), 0, gate, hand);
-        for letters in boxes {
-            letters.take();
-        }
+        self.hand = make_drawn(owners.shared(), 0, gate, hand);
+        recall(boxes);
         let Shared {
             owned,
             size: _,
             mut slots,
             next: _,
-        } = taken_back(held)?;
-        places.take_slots(&owned.round(), &mut slots, &mut self.spare);
+        } = taken_back(owners)?;
+        places.take_slots(&owned.round(), &mut slots, &mut self.spare, gate);
         self.slots = slots;
         Ok(owned.into_bytes())
     }
@@ -331,5 +329,12 @@ fn send<'a>(shared: &Arc<Shared<'a>, Global>, boxes: &[LetterBox<'a>], count: u3
         if let Ok(theirs) = Arc::try_clone(shared) {
             letters.put(theirs);
         }
+    }
+}
+
+// Takes the round out of the letter boxes whose workers haven't.
+fn recall(boxes: &[LetterBox]) {
+    for letters in boxes {
+        letters.take();
     }
 }

@@ -43,7 +43,7 @@ impl<'a> LetterBox<'a> {
         }
     }
 
-    // Puts a round in, unless there is one, or one is just being taken out.
+    // Puts a round in. If there is one, or one is just being taken out, it is dropped, and others make its pieces.
     pub(crate) fn put(&self, round: Arc<Shared<'a>, Global>) {
         let (found, claim) = self.slot.turn(FREE, TAKEN);
         if found == FREE {

@@ -15,6 +15,7 @@ use crate::filling::clear_slots;
 use crate::piece::Piece;
 use crate::round::Round;
 use crate::slots::Slot;
+use claim_core::Gate;
 use counted_slot::Counted;
 use std::alloc::{AllocError, Global};
 use std::marker::Model;
@@ -97,11 +98,12 @@ impl Places {
 
     // Takes the pieces of a round from its slots, and makes those that are missing. No slot is left, and the buffers that
     // were in the places become spare.
-    pub(crate) fn take_slots(
+    pub(crate) fn take_slots<G: Gate>(
         &mut self,
         round: &Round,
         slots: &mut Vec<Counted<Slot>>,
         spare: &mut Vec<Vec<u8>>,
+        gate: &G,
     )
         requires slots { AreSlotsOf self.old.size round.now.values slots.old.items }
         requires room { length round.now.values ≤ self.old.room }
@@ -119,7 +121,7 @@ impl Places {
         ensures none { slots.new.items ≡ [] }
         ensures slots { vec_capacity slots.old ≤ vec_capacity slots.new }
     {
-        clear_slots(slots, round, &mut self.pieces, spare, self.size);
+        clear_slots(slots, round, &mut self.pieces, spare, self.size, gate);
         self.count = round.count();
     }
 

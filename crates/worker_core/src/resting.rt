@@ -12,7 +12,7 @@ const YIELDS: u32 = 200;
 // How many microseconds longer it sleeps each time, and the most.
 const STEP: u32 = 20;
 
-const LONGEST: u32 = 5_000;
+const LONGEST: u32 = 50_000;
 
 /// Lets a moment pass after this many looks in vain, or a turn of the processor. Returns the looks with this one.
 pub(crate) fn look_again(looks: u32) -> u32 {
@@ -24,7 +24,7 @@ pub(crate) fn look_again(looks: u32) -> u32 {
     looks.saturating_add(1)
 }
 
-/// The same, but once looks have been in vain for long the thread also sleeps, longer each time: 5 milliseconds at most.
+/// The same, but once looks have been in vain for long the thread also sleeps, longer each time: 50 milliseconds at most.
 pub(crate) fn rest_longer<R: Clock>(rt: &R, looks: u32) -> u32 {
     if looks < YIELDS {
         return look_again(looks);

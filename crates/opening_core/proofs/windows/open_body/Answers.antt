@@ -14,9 +14,3 @@ returns-in-Err-clause-begun g c = λ opening. begun-none c.args.key.now c.args.h
 
 pub returns-in-Err-clause-sent : goal.returns-in-Err-clause-sent
 returns-in-Err-clause-sent g c = λ opening. sent-nothing c.args.key.now c.args.header.now _ _
-
-pub returns-in_default-clause-begun : goal.returns-in_default-clause-begun
-returns-in_default-clause-begun g c = λ opening. begun-none c.args.key.now c.args.header.now c.args.max_bytes _ _
-
-pub returns-in_default-clause-sent : goal.returns-in_default-clause-sent
-returns-in_default-clause-sent g c = λ opening. sent-nothing c.args.key.now c.args.header.now _ _

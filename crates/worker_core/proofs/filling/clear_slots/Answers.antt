@@ -6,7 +6,7 @@ use Rattle.worker_core.proofs.SlotLemmas.{slots-front, placed-one, placed-all}
 use Rattle.worker_core.proofs.filling.clear_slots.Goals as goal
 
 pub clearing-preserved : goal.clearing-preserved
-clearing-preserved c =
+clearing-preserved g c =
     let before = c.clearing.invariant in
     let slots = c.clearing.slots.items in
     let front = c.pop.new.self.items in
@@ -41,7 +41,7 @@ clearing-preserved c =
     }
 
 pub returns-clause-values : goal.returns-clause-values
-returns-clause-values c =
+returns-clause-values g c =
     let before = c.clearing.invariant in
     let none : length c.clearing.slots.items ≡ 0 = search rules in
     placed-all c.args.round.now.values c.clearing.pieces.items (search rules) (λ k below. before.values k (omega (arith, none)) below)

@@ -5,7 +5,7 @@ use Rattle.worker_core.specs.Slots.{expected_value}
 use Rattle.worker_core.proofs.filling.clear_slots.Given as goal
 
 abbrev pub invariant-clearing : goal.invariant-clearing
-invariant-clearing l = record {
+invariant-clearing g l = record {
   number : l.number ≡ length l.slots.items;
   few : length l.slots.items ≤ length l.round.values;
   slots : map expected_value l.slots.items ≡ take (length l.slots.items) l.round.values;
@@ -21,4 +21,4 @@ invariant-clearing l = record {
 }
 
 abbrev pub decreases-clearing : goal.decreases-clearing
-decreases-clearing l = goal.left-clearing l
+decreases-clearing g l = goal.left-clearing g l
