@@ -7,7 +7,8 @@ The right output is computed by tools/seal_container.py, which is written from d
   each option; a stream one byte longer than --max-chunks allows.
 - A stream of GIGABYTES (8; the gate gives 2) of zeros from `head`, with four workers at depth 16 in 256 MiB of addresses. Each chunk is opened
   as it comes, and no more memory is taken than by an empty stream and the chunks that may wait.
-- Readers that stall for ten seconds, and a source that does: the program takes less than a tenth of a processor second.
+- Readers that stall for ten seconds, and sources that do, of `verify` and `unpipe` too: the program takes less than a tenth of a processor
+  second.
 - At depth 1 a chunk is written once a byte after it came, and not before.
 - Readers that end early, and full disks: what came begins the container, the number is void, and the next run has another.
 - 50 runs are killed, at times and lengths drawn from SEED: no later run has a number that one had before.
@@ -275,42 +276,55 @@ class Stalls(threading.Thread):
     def __init__(self):
         super().__init__()
         self.runs, self.most = [], 0
-        plain = NOISE[:6_000_000]
+        self.plain = plain = NOISE[:6_000_000]
         with open("stalled", "wb") as file:
             file.write(plain)
         for workers, depth, is_source in ((4, 16, False), (16, 64, False), (2, 1, False), (4, 16, True), (1, 16, True)):
             what = f"a {'source' if is_source else 'reader'} that stalls, {workers} workers, depth {depth}"
             words = words_of("--workers", str(workers), "--depth", str(depth), ledger=f"stalled.{len(self.runs)}")
-            source, feed = os.pipe() if is_source else (os.open("stalled", os.O_RDONLY), None)
-            run = subprocess.Popen(words, stdin=source, stdout=subprocess.PIPE, stderr=subprocess.PIPE)
-            os.close(source)
+            is_as_it_should = lambda *ran, what=what: is_whole(what, ran, plain)
             if is_source:
-                # some of it, and then nothing
-                os.write(feed, plain[:40_000])
-            self.runs.append((what, run, feed))
-        self.plain = plain
+                self.begin(what, words, plain, 40_000, is_as_it_should)
+            else:
+                self.begin(what, words, None, 0, is_as_it_should)
+        status, container, _ = piped(source=plain, ledger="stalled.stm")
+        for command, answer in (("verify", (0, f"good - bytes {len(plain)}\n".encode(), "")), ("unpipe", (0, plain, f"opened - bytes {len(plain)}\n"))):
+            what = f"a source that stalls, {command} by 4 workers"
+            names = ["-"] if command == "verify" else []
+            words = [sealer, command, "--key", key_file, "--workers", "4", *names]
+            self.begin(what, words, container, 2_000_000, lambda *ran, what=what, answer=answer: ran == answer or differs(what, ran[0], ran[2]))
+
+    def begin(self, what, words, data, front, is_as_it_should):
+        """Starts a run. Its source gives `front` bytes of the data and then nothing, or else its reader reads nothing yet."""
+        source, feed = os.pipe() if data else (os.open("stalled", os.O_RDONLY), None)
+        run = subprocess.Popen(words, stdin=source, stdout=subprocess.PIPE, stderr=subprocess.PIPE)
+        os.close(source)
+        if data:
+            with os.fdopen(os.dup(feed), "wb") as file:
+                file.write(data[:front])
+        self.runs.append((what, run, feed, data and data[front:], is_as_it_should))
 
     def run(self):
         time.sleep(2)
-        before = [ticks(run.pid) for _, run, _ in self.runs]
+        before = [ticks(run.pid) for _, run, *_ in self.runs]
         time.sleep(STALL)
-        for (what, run, feed), first in zip(self.runs, before):
+        for (what, run, feed, data, is_as_it_should), first in zip(self.runs, before):
             took = ticks(run.pid) - first
             self.most = max(self.most, took)
             if took >= IDLE:
                 differs(what, f"{took} processor seconds in {STALL} s")
             if run.poll() is not None:
                 differs(what, "it ended")
-            rest = threading.Thread(target=self.feed, args=(feed,))
+            rest = threading.Thread(target=self.feed, args=(feed, data))
             rest.start()
             out, err = run.communicate(timeout=HANG)
             rest.join()
-            is_whole(what, (run.returncode, out, err.decode()), self.plain)
+            is_as_it_should(run.returncode, out, err.decode())
 
-    def feed(self, feed):
+    def feed(self, feed, data):
         if feed is not None:
             with os.fdopen(feed, "wb") as file:
-                file.write(self.plain[40_000:])
+                file.write(data)
 
 
 def as_it_comes():

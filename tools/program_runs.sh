@@ -781,19 +781,19 @@ for length in 4055 4056 4057; do
 done
 # Files in turn, by each engine: a longer one before shorter ones, and before these one that fails once some MB of it were read.
 fresh
-head -c 3000000 /dev/zero | tr '\0' 'L' > files/long
+head -c 4500000 /dev/zero | tr '\0' 'L' > files/long
 head -c 70000 /dev/zero | tr '\0' 'm' > files/middle
 echo short > files/short
 : > files/none
 mkfifo files/endless
 mkdir files/kept
-for words in '--workers 1' '--workers 4' '--lanes 2' '--lanes 8'; do
+for words in '--workers 1' '--workers 4' '--lanes 2' '--lanes 3'; do
     rm -f files/*.stm files/l*-wal files/l
     head -c 6000000 /dev/zero > files/endless &
     run seal --key "$key" --ledger files/l --device 1 --max-bytes 5000000 $words files/long files/endless files/middle files/short files/none
     wait
     unnumbered
-    wants "files-in-turn $words" 1 'sealed files/long bytes 3000000
+    wants "files-in-turn $words" 1 'sealed files/long bytes 4500000
 failed files/endless: too long
 sealed files/middle bytes 70000
 sealed files/short bytes 6
@@ -804,13 +804,13 @@ sealed files/none bytes 0' ''
     printf x | dd of=files/bad.stm bs=1 seek=2500000 conv=notrunc status=none
     for workers in 1 4; do
         run verify --key "$key" --workers $workers files/long.stm files/bad.stm files/middle.stm files/short.stm files/none.stm
-        wants "verified-in-turn $words, $workers" 1 'good files/long.stm bytes 3000000
+        wants "verified-in-turn $words, $workers" 1 'good files/long.stm bytes 4500000
 failed files/bad.stm: chunk 38 does not check
 good files/middle.stm bytes 70000
 good files/short.stm bytes 6
 good files/none.stm bytes 0' ''
         run open --key "$key" --workers $workers files/long.stm files/bad.stm files/middle.stm files/short.stm files/none.stm
-        wants "opened-in-turn $words, $workers" 1 'opened files/long.stm bytes 3000000
+        wants "opened-in-turn $words, $workers" 1 'opened files/long.stm bytes 4500000
 failed files/bad.stm: chunk 38 does not check
 opened files/middle.stm bytes 70000
 opened files/short.stm bytes 6
@@ -820,6 +820,17 @@ opened files/none.stm bytes 0' ''
             rm "files/$name"
         done
     done
+    # the same of pipes, which are read once, in memory
+    mkfifo files/one.stm files/two.stm
+    cat files/long.stm > files/one.stm &
+    cat files/short.stm > files/two.stm &
+    run open --key "$key" --workers 4 files/one.stm files/two.stm
+    wait
+    wants "opened-once-in-turn $words" 0 'opened files/one.stm bytes 4500000
+opened files/two.stm bytes 6' ''
+    is "opened-once-is-what-was-sealed $words" cmp -s files/one files/kept/long
+    is "opened-once-is-what-was-sealed $words, the short one" cmp -s files/two files/kept/short
+    rm files/one files/two files/one.stm files/two.stm
     mv files/kept/* files
 done
 fresh

@@ -361,7 +361,7 @@ fn all_pieces_of_a_stream_pass_at_any_depth(rt: HostRuntime) -> Result<(), Fail>
     Ok(())
 }
 
-// Whether each engine's second worker makes the other pieces while the first is held with one.
+// Whether each engine's first worker makes the other pieces while the second is held with one.
 fn are_held_with_one<R: Threads + Clock + Wait + Sync>(
     rt: &R,
     alloc: Global,
@@ -379,7 +379,7 @@ fn are_held_with_one<R: Threads + Clock + Wait + Sync>(
     true
 }
 
-// A worker that is slow with one piece holds up no other: the second worker meanwhile makes the others of the round.
+// A worker that is slow with one piece holds up no other: meanwhile the caller's makes the others of the round.
 #[test]
 fn a_held_worker_holds_one_piece(rt: HostRuntime) -> Result<(), Fail> {
     let eight = pattern(rt.alloc(), 8 * CHUNK)?;
@@ -389,22 +389,43 @@ fn a_held_worker_holds_one_piece(rt: HostRuntime) -> Result<(), Fail> {
     Ok(())
 }
 
-// Holds worker 0 in each round of four chunks until worker 1 has passed in it.
+// Holds worker 0 with a piece of a round of four chunks until worker 1 has passed with the three others.
 #[derive(Drop)]
 struct EachRound {
-    reached: AtomicU64,
+    passes: [AtomicU64; 3],
     gave_up: AtomicU64,
+}
+
+impl EachRound {
+    fn new() -> EachRound {
+        EachRound {
+            passes: [AtomicU64::new(0), AtomicU64::new(0), AtomicU64::new(0)],
+            gave_up: AtomicU64::new(0),
+        }
+    }
+
+    // Whether worker 1 passed with three pieces of each round at least.
+    fn is_passed(&self) -> bool {
+        for passes in &self.passes {
+            if passes.load(SeqCst) < 3 {
+                return false;
+            }
+        }
+        self.gave_up.load(SeqCst) == 0
+    }
 }
 
 impl Gate for EachRound {
     fn pass(&self, worker: u32, piece: u32) {
-        let round = u64::from(piece / 4) + 1;
+        let Some(passes) = self.passes.get(piece as usize / 4) else {
+            return;
+        };
         if worker == 1 {
-            self.reached.store(round, SeqCst);
+            passes.fetch_add(1, SeqCst);
             return;
         }
         for _turn in 0..TURNS {
-            if self.reached.load(SeqCst) >= round {
+            if passes.load(SeqCst) >= 3 {
                 return;
             }
         }
@@ -412,7 +433,7 @@ impl Gate for EachRound {
     }
 }
 
-// Whether a second worker that lasts makes a piece of each of three rounds.
+// Whether a second worker that lasts makes three pieces of each of three rounds, or all four.
 fn works_in_each_round<R: Threads + Clock + Sync>(
     rt: &R,
     alloc: Global,
@@ -421,12 +442,9 @@ fn works_in_each_round<R: Threads + Clock + Sync>(
     let shape = Shape::one();
     let container = seal(alloc, &counting_key(), &shape, PREFIX, plain).ok()?;
     for engine in &OF_FOUR {
-        let gate = EachRound {
-            reached: AtomicU64::new(0),
-            gave_up: AtomicU64::new(0),
-        };
+        let gate = EachRound::new();
         let is_done = reads(rt, alloc, *engine, plain, container.as_slice(), 2, &gate);
-        if !is_done || gate.gave_up.load(SeqCst) > 0 || gate.reached.load(SeqCst) != 3 {
+        if !is_done || !gate.is_passed() {
             return Some(false);
         }
     }
