@@ -1,7 +1,7 @@
 //! The number of chunks of a round of a file, if none is asked for.
 //!
-//! Workers run until the end of a file, so a round needs no more bytes than a processor's nearer cache holds. An opening
-//! is fastest if a round and the next, which is read after it, both stay there.
+//! Workers last as long as a file is sealed or read, so a round needs no more bytes than a processor's nearer cache
+//! holds. An opening is fastest if a round and the next, which is read after it, both stay there.
 ghost use Rattle.std.specs.Prelude.{◌≡◌, ◌<◌, ◌≤◌};
 ghost use Rattle.claim_core.specs.Window.{chunks_in, usual, usual_opening};
 
