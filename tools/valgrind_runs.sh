@@ -1,7 +1,8 @@
 #!/bin/bash
 # Runs the built program on small inputs under valgrind. Memcheck finds no invalid read or write, no use of uninitialized memory, and no leak.
-# Helgrind and drd find no race of lanes; nothing is suppressed. Status, lines and files are those of a run without valgrind. Prints 'N runs under valgrind as they should be', or what differs. Without valgrind it says so and exits with status 0, and
-# under CI it fails. The program is crates/sealer/out/sealer, or $SEALER.
+# Helgrind and drd find no race of lanes; nothing is suppressed. Status, lines and files are those of a run without valgrind. Prints
+# 'N runs under valgrind as they should be', or what differs. Without valgrind it says so and exits with status 0, and under CI it fails. The
+# program is crates/sealer/out/sealer, or $SEALER.
 set -u
 cd "$(dirname "$0")/.."
 sealer=$(realpath "${SEALER:-crates/sealer/out/sealer}")
