@@ -5,8 +5,9 @@ FOLDER: an empty folder, best in memory-backed storage, with 6 times MIB free. T
 1024, 4096, 16384), and 10,000 files of 4 KiB. Everything is timed in turn, ROUNDS (3) times over, and the least counts: wall seconds, and the
 page faults of that run in thousands. Then it prints each as a part of the time of one worker, with its floor: what one thread takes that only
 reads these files and writes as many in turn, as the first one does, and the seconds that one worker spent outside the kernel, shared. Threads
-cost nothing there; where some are started, a second figure adds what about that takes, by tools/thread_start.c (it needs cc). PROGRAM is
-crates/sealer/out/sealer by default.
+cost nothing there; where some are started, a second figure adds what about that takes, by tools/thread_start.c (it needs cc). Of lanes,
+whose first thread reads a group, then seals, then writes, `left` is what is left beside the reading and writing, as a part of what is left
+of one worker's time beside its own. PROGRAM is crates/sealer/out/sealer by default.
 """
 import argparse
 import os
@@ -116,16 +117,21 @@ def starts(name, size, count):
     return 0, 0
 
 
+def in_turn(name, parts):
+    """The seconds that the first thread reads and writes in turn for a command, as read_and_written took them."""
+    command, how, several = (name.split() + ["1"])[:3]
+    read, written = parts[int(several) if how == "--lanes" else 1]
+    return {"seal": read + written, "verify": read, "open": 2 * read + written}.get(command, read + written)
+
+
 def floor(name, parts, shared):
     """The least seconds that a command can take whose first thread reads and writes in turn, if SHARED seconds are spent outside the kernel.
     Lanes share only these; workers work while the first thread reads and writes."""
-    command, how, several = (name.split() + ["1"])[:3]
-    several = int(several) if several.isdigit() else 1
-    read, written = parts[several if how == "--lanes" else 1]
-    in_turn = {"seal": read + written, "verify": read, "open": 2 * read + written}.get(command, read + written)
+    _, how, several = (name.split() + ["1"])[:3]
+    several, first = int(several) if several.isdigit() else 1, in_turn(name, parts)
     if how == "--lanes":
-        return in_turn + shared / several
-    return max(in_turn, (in_turn + shared) / several)
+        return first + shared / several
+    return max(first, (first + shared) / several)
 
 
 def measured(size, count):
@@ -147,12 +153,16 @@ def measured(size, count):
             best[name] = min(best.get(name, (1e9, 0, 0)), timed(words, before))
     parts = {it: [min(took) for took in zip(*(read_and_written(folder, it) for _ in range(asked.rounds)))] for it in (1, 2, 4)}
     for name in works:
-        one, _, shared = best.get(f"{name.split()[0]} --workers 1", best["cp -r"])
+        alone = f"{name.split()[0]} --workers 1"
+        one, _, shared = best.get(alone, best["cp -r"])
         times, threads = starts(name, size, count)
         least = floor(name, parts, shared)
         with_starts = f", with threads {(least + times * costs[threads]) / one:4.2f}" if threads else ""
         floors = f"floor {least / one:4.2f}{with_starts}"
-        print(f"{count:6} of {size:6} KiB  {name:20} {best[name][0]:7.3f} s  {best[name][0] / one:5.2f} of one worker, {floors}  {best[name][1]:7.1f} k faults", flush=True)
+        left = ""
+        if "--lanes" in name and one > in_turn(alone, parts):
+            left = f", left {(best[name][0] - in_turn(name, parts)) / (one - in_turn(alone, parts)):4.2f}"
+        print(f"{count:6} of {size:6} KiB  {name:20} {best[name][0]:7.3f} s  {best[name][0] / one:5.2f} of one worker, {floors}{left}  {best[name][1]:7.1f} k faults", flush=True)
     print(f"{count:6} of {size:6} KiB  in turn, by groups of 1, 2, 4: read {', '.join(f'{it[0]:.3f}' for it in parts.values())} s, written {', '.join(f'{it[1]:.3f}' for it in parts.values())} s")
     copies()
     shutil.rmtree(folder)

@@ -7,7 +7,7 @@ The right output is computed by tools/seal_container.py, which is written from d
   each option; a stream one byte longer than --max-chunks allows.
 - A stream of GIGABYTES (8; the gate gives 2) of zeros from `head`, with four workers at depth 16 in 256 MiB of addresses. Each chunk is opened
   as it comes, and no more memory is taken than by an empty stream and the chunks that may wait.
-- Readers that stall for ten seconds, and sources that do, of `verify` and `unpipe` too: the program takes less than a tenth of a processor
+- Readers that stall for ten seconds, and sources that do, of `verify` and `unpipe` too: the program takes less than a fifth of a processor
   second.
 - At depth 1 a chunk is written once a byte after it came, and not before.
 - Readers that end early, and full disks: what came begins the container, the number is void, and the next run has another.
@@ -17,6 +17,7 @@ The right output is computed by tools/seal_container.py, which is written from d
 Prints 'N streams as they should be', or what differs. If Python's package `cryptography` is missing it says so and exits with status 0; under
 CI it fails. The program is crates/sealer/out/sealer, or $SEALER.
 """
+import contextlib
 import os
 import pty
 import random
@@ -31,6 +32,7 @@ import tempfile
 import threading
 import time
 import tty
+from pathlib import Path
 
 sys.dont_write_bytecode = True
 try:
@@ -50,7 +52,7 @@ key_file = f"{top}/examples/key"
 with open(key_file, encoding="ascii") as file:
     KEY = bytes.fromhex(file.read())
 # Seconds after which a run hangs; seconds that a stall lasts, and the processor seconds that it may take.
-HANG, STALL, IDLE = 60, 10, 0.1
+HANG, STALL, IDLE = 60, 10, 0.2
 HEADER, TAG, CHUNK = 24, 16, 1 << 16
 SEALED = re.compile(r"sealed - file ([0-9]+) bytes ([0-9]+)\n")
 VOID, WHOLE = (f"legal: 1 granted, {s} sealed, {v} void, 0 open, 0 refused\n".encode() for s, v in ((0, 1), (1, 0)))
@@ -274,57 +276,59 @@ class Stalls(threading.Thread):
     """Runs whose reader or source stalls, beside the other streams: it is a thread that waits."""
 
     def __init__(self):
-        super().__init__()
+        super().__init__(daemon=True)
         self.runs, self.most = [], 0
-        self.plain = plain = NOISE[:6_000_000]
-        with open("stalled", "wb") as file:
-            file.write(plain)
-        for workers, depth, is_source in ((4, 16, False), (16, 64, False), (2, 1, False), (4, 16, True), (1, 16, True)):
-            what = f"a {'source' if is_source else 'reader'} that stalls, {workers} workers, depth {depth}"
+        plain = NOISE[:6_000_000]
+        Path("stalled").write_bytes(plain)
+        status, container, err = piped(source=plain, ledger="stalled.stm")
+        if status:
+            return differs("what stalls", f"status {status}", err)
+        Path("stalled.stm").write_bytes(container)
+        for workers, depth, begun in ((4, 16, None), (16, 64, None), (2, 1, None), (4, 16, 40_000), (1, 16, 40_000)):
+            what = f"a {'reader' if begun is None else 'source'} that stalls, {workers} workers, depth {depth}"
             words = words_of("--workers", str(workers), "--depth", str(depth), ledger=f"stalled.{len(self.runs)}")
-            is_as_it_should = lambda *ran, what=what: is_whole(what, ran, plain)
-            if is_source:
-                self.begin(what, words, plain, 40_000, is_as_it_should)
-            else:
-                self.begin(what, words, None, 0, is_as_it_should)
-        status, container, _ = piped(source=plain, ledger="stalled.stm")
-        for command, answer in (("verify", (0, f"good - bytes {len(plain)}\n".encode(), "")), ("unpipe", (0, plain, f"opened - bytes {len(plain)}\n"))):
-            what = f"a source that stalls, {command} by 4 workers"
-            names = ["-"] if command == "verify" else []
-            words = [sealer, command, "--key", key_file, "--workers", "4", *names]
-            self.begin(what, words, container, 2_000_000, lambda *ran, what=what, answer=answer: ran == answer or differs(what, ran[0], ran[2]))
+            self.begin(what, words, "stalled", begun, lambda what, *ran: is_whole(what, ran, plain))
+        opened = (0, plain, f"opened - bytes {len(plain)}\n")
+        good = (0, f"good - bytes {len(plain)}\n".encode(), "")
+        for words, begun, wanted in (("unpipe", 2_000_000, opened), ("verify -", 2_000_000, good), ("unpipe", None, opened)):
+            what = f"a {'reader' if begun is None else 'source'} that stalls, {words} by 4 workers"
+            words = [sealer, *words.split(), "--key", key_file, "--workers", "4"]
+            self.begin(what, words, "stalled.stm", begun, lambda what, *ran, wanted=wanted: ran == wanted or differs(what, ran[0], ran[2]))
+        return None
 
-    def begin(self, what, words, data, front, is_as_it_should):
-        """Starts a run. Its source gives `front` bytes of the data and then nothing, or else its reader reads nothing yet."""
-        source, feed = os.pipe() if data else (os.open("stalled", os.O_RDONLY), None)
+    def begin(self, what, words, name, begun, judge):
+        """Starts a run over a file. Its source gives `begun` bytes of that and then nothing; without them its reader reads nothing yet."""
+        data = b"" if begun is None else Path(name).read_bytes()
+        source, feed = (os.open(name, os.O_RDONLY), None) if begun is None else os.pipe()
         run = subprocess.Popen(words, stdin=source, stdout=subprocess.PIPE, stderr=subprocess.PIPE)
         os.close(source)
         if data:
-            with os.fdopen(os.dup(feed), "wb") as file:
-                file.write(data[:front])
-        self.runs.append((what, run, feed, data and data[front:], is_as_it_should))
+            threading.Thread(target=self.feed, args=(os.dup(feed), data[:begun]), daemon=True).start()
+        self.runs.append((what, run, feed, data[begun or 0:], judge))
 
     def run(self):
         time.sleep(2)
         before = [ticks(run.pid) for _, run, *_ in self.runs]
         time.sleep(STALL)
-        for (what, run, feed, data, is_as_it_should), first in zip(self.runs, before):
-            took = ticks(run.pid) - first
-            self.most = max(self.most, took)
-            if took >= IDLE:
-                differs(what, f"{took} processor seconds in {STALL} s")
+        took = [ticks(run.pid) - first for (_, run, *_), first in zip(self.runs, before)]
+        self.most = max(took, default=0)
+        for (what, run, feed, data, judge), seconds in zip(self.runs, took):
+            if seconds >= IDLE:
+                differs(what, f"{seconds} processor seconds in {STALL} s")
             if run.poll() is not None:
                 differs(what, "it ended")
-            rest = threading.Thread(target=self.feed, args=(feed, data))
-            rest.start()
-            out, err = run.communicate(timeout=HANG)
-            rest.join()
-            is_as_it_should(run.returncode, out, err.decode())
+            if feed is not None:
+                threading.Thread(target=self.feed, args=(feed, data), daemon=True).start()
+            try:
+                out, err = run.communicate(timeout=HANG)
+                judge(what, run.returncode, out, err.decode())
+            except subprocess.TimeoutExpired:
+                differs(what, "hangs")
+                run.kill()
 
     def feed(self, feed, data):
-        if feed is not None:
-            with os.fdopen(feed, "wb") as file:
-                file.write(data)
+        with contextlib.suppress(BrokenPipeError), os.fdopen(feed, "wb") as file:
+            file.write(data)
 
 
 def as_it_comes():

@@ -820,17 +820,21 @@ opened files/none.stm bytes 0' ''
             rm "files/$name"
         done
     done
-    # the same of pipes, which are read once, in memory
-    mkfifo files/one.stm files/two.stm
-    cat files/long.stm > files/one.stm &
-    cat files/short.stm > files/two.stm &
-    run open --key "$key" --workers 4 files/one.stm files/two.stm
-    wait
-    wants "opened-once-in-turn $words" 0 'opened files/one.stm bytes 4500000
-opened files/two.stm bytes 6' ''
-    is "opened-once-is-what-was-sealed $words" cmp -s files/one files/kept/long
-    is "opened-once-is-what-was-sealed $words, the short one" cmp -s files/two files/kept/short
-    rm files/one files/two files/one.stm files/two.stm
+    # and by the engine that reads once, into memory: of pipes
+    for workers in 1 4; do
+        mkfifo files/one.stm files/two.stm files/three.stm
+        timeout 60 cat files/long.stm > files/one.stm &
+        timeout 60 cat files/bad.stm > files/two.stm &
+        timeout 60 cat files/short.stm > files/three.stm &
+        run open --key "$key" --workers $workers files/one.stm files/two.stm files/three.stm
+        wait
+        wants "opened-once-in-turn $words, $workers" 1 'opened files/one.stm bytes 4500000
+failed files/two.stm: chunk 38 does not check
+opened files/three.stm bytes 6' ''
+        is "opened-once-is-what-was-sealed $words, $workers" cmp -s files/one files/kept/long
+        is "opened-once-is-what-was-sealed $words, $workers, the short one" cmp -s files/three files/kept/short
+        rm -f files/one files/three files/one.stm files/two.stm files/three.stm
+    done
     mv files/kept/* files
 done
 fresh

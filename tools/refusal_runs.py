@@ -372,10 +372,10 @@ def kinds(made):
     great_opened, great_good = (f"{word} great.stm bytes {len(FILES['great'])}" for word in ("opened", "good"))
     for workers in ("1", "2"):
         by, great = ["--key", key, "--workers", workers], {"great.stm": great_stm}
-        # Each of the 17 rounds of a reading that can't be shared is the first thread's alone.
-        rounds = 17 if workers == "2" else 0
-        yield Kind(f"open by {workers}", ["open", *by, "great.stm"], ["great.stm"], great, 50, line=great_opened, heals=2 * rounds)
-        yield Kind(f"verify by {workers}", ["verify", *by, "great.stm"], ["great.stm"], great, 40, line=great_good, heals=rounds)
+        # Of two: a round is made by the first thread alone if it can't be shared; and none works beside it without letter boxes or a buffer.
+        heals = -(-len(great_stm) // (1 << 18)) + 2 if workers == "2" else 0
+        yield Kind(f"open by {workers}", ["open", *by, "great.stm"], ["great.stm"], great, 50, line=great_opened, heals=2 * heals)
+        yield Kind(f"verify by {workers}", ["verify", *by, "great.stm"], ["great.stm"], great, 40, line=great_good, heals=heals)
     yield Kind("open a small one", ["open", "--key", key, "small.stm"], ["small.stm"], {"small.stm": numbers}, 40, line="opened small.stm bytes 1492")
     into = ["--key", key, "--into", ".", "long.stm"]
     yield Kind("open into a folder", ["open", *into], ["long.stm"], {"long.stm": long_stm}, 40, line=opened)
