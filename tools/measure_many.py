@@ -68,6 +68,13 @@ def unsealed(folder):
         file.unlink()
 
 
+def warmed(folder):
+    """Reads the containers twice: the first readers of a file in memory-backed storage pay for the system's account of it."""
+    for _ in range(2):
+        for file in folder.glob("*.stm"):
+            file.read_bytes()
+
+
 def read_and_written(folder, at_once):
     """The wall seconds in which one thread reads all files in turn, and in which it makes, writes and names as many: as the program does it, in
     groups of AT_ONCE files that are in memory together, or, if that is 1, in pieces of one room."""
@@ -144,8 +151,8 @@ def measured(size, count):
         "cp -r": (["cp", "-r", folder, "copies"], copies),
         **{f"seal --lanes {it}": ([*seal, "--lanes", str(it)], lambda: unsealed(folder)) for it in (2, 4)},
         **{f"seal --workers {it}": ([*seal, "--workers", str(it)], lambda: unsealed(folder)) for it in (2, 4, 1)},
-        **{f"verify --workers {it}": ([asked.program, "verify", *read, "--workers", str(it)], lambda: None) for it in (1, 2, 4)},
-        **{f"open --workers {it}": ([asked.program, "open", *read, "--into", "copies", "--workers", str(it)], lambda: (copies(), os.mkdir("copies"))) for it in (1, 2, 4)},
+        **{f"verify --workers {it}": ([asked.program, "verify", *read, "--workers", str(it)], lambda: warmed(folder)) for it in (1, 2, 4)},
+        **{f"open --workers {it}": ([asked.program, "open", *read, "--into", "copies", "--workers", str(it)], lambda: (warmed(folder), copies(), os.mkdir("copies"))) for it in (1, 2, 4)},
     }
     best = {}
     for _ in range(asked.rounds):
