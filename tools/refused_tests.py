@@ -30,7 +30,7 @@ TESTS = (
     ("batch_tests", "tests::a_refused_growth_loses_no_number", 10),
     ("engine_tests", "two_chunks::a_refused_growth_seals_nothing_or_all", 10),
     ("engine_tests", "two_chunks::a_refused_growth_opens_nothing_or_all", 10),
-    ("engine_tests", "two_chunks::a_refused_growth_is_no_other_fault", 7),
+    ("engine_tests", "two_chunks::a_refused_growth_is_no_other_fault", 5),
     ("pipe_tests", "refused::a_refused_growth_seals_a_beginning_or_all", 10),
     ("sealer_tests", "refused::a_refused_growth_leaves_a_legal_journal", 500),
 )
