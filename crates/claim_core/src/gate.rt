@@ -6,9 +6,9 @@
 /// all other pieces of that round, or jobs of that batch. It must not wait for a call in a later round.
 ///
 /// If a file is sealed in chunks of less than 64 KiB, a worker takes several at a time. It passes with each of them,
-/// from the last to the first; blocking one blocks those before it too. If no thread can be started, or memory is refused
-/// that workers share a round by, or that one has for itself, a worker is alone. Then a gate that waits for another must
-/// give up.
+/// from the last to the first; blocking one blocks those before it too. A worker may be alone: where no thread can be
+/// started, or where memory is refused by which workers share a round, or which one of them needs for itself. Then a
+/// gate that waits for another worker has to give up.
 pub trait Gate {
     /// Called by a worker right before it seals or opens a chunk, with the worker's number, from 0, and the chunk
     /// number. In a batch, called by the lane that has drawn a job, once for each job, right before it issues a number.
