@@ -1,7 +1,6 @@
 -- What the slots that are left say of the pieces that are in their places.
 use Rattle.std.proofs.Common.{◌≡◌, ℕ, ◌+◌, ◌<◌, ◌≤◌, List, [], ◌∷◌, ◌++◌, length, map, take, get_or, set, Option, None, inl, inr, sym, ap, arith, ◌∙◌, length-append, get_or-set_same, get_or-set_other, ext_get_or}
 use Rattle.std.proofs.lemmas.List.{map-append, map-set, length-map, get_or-take, get_or_append_left, length-take-le}
-use Rattle.std.proofs.Math.Seq.{get_or-append_seam}
 use Rattle.std.proofs.lemmas.Bool.{cases_eq}
 use Rattle.worker_core.specs.declared.slots.Expected.{Expected}
 use Rattle.worker_core.specs.declared.piece.Piece.{Piece}
@@ -30,17 +29,6 @@ slots-front values slots front last is each few =
     sym (get_or_append_left (map expected_value front) (expected_value last ∷ []) None i at) ∙ e
     ∙ get_or-take (length front + 1) values i None (omega (arith, mapped, at))
     ∙ sym (get_or-take (length front) values i None (omega (arith, mapped, at))))
-
--- and what the last one expects
-pub slot-last : (values : List (Option (List ℕ))) (slots front : List Expected) (last : Expected) (d : Option (List ℕ))
-    → slots ≡ front ++ last ∷ [] → map expected_value slots ≡ take (length slots) values
-    → expected_value last ≡ get_or values (length front) d
-slot-last values slots front last d is each =
-    let seam = get_or-append_seam (map expected_value front) (expected_value last) [] d in
-    let at = ap (λ (l : List (Option (List ℕ))). get_or l (length (map expected_value front)) d) (whole values slots front last is each) in
-    let mapped = length-map front expected_value in
-    sym seam ∙ at ∙ get_or-take (length front + 1) values (length (map expected_value front)) d (omega (arith, mapped))
-    ∙ ap (λ n. get_or values n d) mapped
 
 -- one more piece in its place
 pub placed-one : (values : List (Option (List ℕ))) (pieces : List Piece) (piece : Piece) (number k : ℕ)

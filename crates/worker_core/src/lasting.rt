@@ -11,7 +11,7 @@ ghost use Rattle.worker_core.specs.Shared.{owners_view};
 
 use crate::bench::buffers;
 use crate::filling::lay_out;
-use crate::letters::LetterBox;
+use crate::letters::{Letter, LetterBox};
 use crate::owned::OwnedRound;
 use crate::places::Places;
 use crate::resting::{look_again, rest_longer};
@@ -75,7 +75,7 @@ impl<'a> Owners<'a> {
     }
 }
 
-/// A round that is shared, and not finished, and the letter boxes that it was put into. Contracts see the round, how many
+/// A round that isn't finished, and the letter boxes of the workers that may have it. Contracts see the round, how many
 /// bytes of room each piece has, and for how many slots there is room.
 #[derive(Drop)]
 pub struct Sharing<'s, 'a> {
@@ -91,28 +91,57 @@ impl<'s, 'a> Model for Sharing<'s, 'a> {
     ghost view = { λ s. owners_view s.owners };
 }
 
-// Looks into the letter box, and makes pieces of the rounds that come, until the crew ends.
+// Looks into the letter box, and makes pieces of the rounds that come, until the chore has ended.
 fn serve<R: Clock, G: Gate>(
     rt: &R,
+    alloc: Global,
     letters: &LetterBox,
     worker: u32,
-    hand: Vec<u8>,
     ended: &AtomicU64,
     gate: &G,
-)
-    requires { hand.items ≡ [] }
-{
-    let mut hand = hand;
+) {
+    let mut hand = Vec::new(alloc);
     let mut looks = 0;
     for _ in 0..u64::MAX {
-        if let Some(shared) = letters.take() {
-            hand = make_drawn(&shared, worker, gate, hand);
+        if let Some(letter) = letters.take() {
+            let Letter {
+                round,
+                hand: larger,
+            } = letter;
+            hand = work_on(alloc, &round, worker, gate, hand, larger);
+            // Before the round is let go of: the caller's thread then may share the next one.
+            letters.note(hand.capacity());
+            drop(round);
             looks = 0;
         } else if ended.load(SeqCst) != 0 {
             return;
         } else {
             looks = rest_longer(rt, looks);
         }
+    }
+}
+
+// Makes pieces of a round in the worker's buffer, or in a larger one that came with it. Returns the buffer that is left.
+// Pieces without bytes need none, and leave the worker its own.
+fn work_on<G: Gate>(
+    alloc: Global,
+    round: &Shared,
+    worker: u32,
+    gate: &G,
+    hand: Vec<u8>,
+    larger: Option<Vec<u8>>,
+) -> Vec<u8>
+    requires hand { hand.items ≡ [] }
+    requires larger { IfSome larger (λ buffer. buffer.items ≡ []) }
+    ensures { result.items ≡ [] }
+{
+    if round.size == 0 {
+        make_drawn(round, worker, gate, Vec::new(alloc));
+        return hand;
+    }
+    match larger {
+        Some(larger) => make_drawn(round, worker, gate, larger),
+        None => make_drawn(round, worker, gate, hand),
     }
 }
 
@@ -123,7 +152,6 @@ fn beside_workers<R: Threads + Clock + Sync, G: Gate + Sync, C: FnMut() -> A, A>
     alloc: Global,
     boxes: &[LetterBox],
     ended: &AtomicU64,
-    size: usize,
     gate: &G,
     chore: &mut C,
 ) -> A
@@ -138,10 +166,7 @@ fn beside_workers<R: Threads + Clock + Sync, G: Gate + Sync, C: FnMut() -> A, A>
         return done;
     }
     let (front, last) = boxes.split_at(others - 1);
-    match Vec::with_capacity(alloc, size) {
-        Ok(hand) => beside_worker(rt, alloc, front, &last[0], hand, ended, size, gate, chore),
-        Err(AllocError) => beside_workers(rt, alloc, front, ended, size, gate, chore),
-    }
+    beside_worker(rt, alloc, front, &last[0], ended, gate, chore)
 }
 
 // Runs the chore and the workers of these letter boxes, and beside them one more on a thread of its own.
@@ -151,44 +176,34 @@ fn beside_worker<R: Threads + Clock + Sync, G: Gate + Sync, C: FnMut() -> A, A>(
     alloc: Global,
     boxes: &[LetterBox],
     other: &LetterBox,
-    hand: Vec<u8>,
     ended: &AtomicU64,
-    size: usize,
     gate: &G,
     chore: &mut C,
 ) -> A
     requires boxes { length boxes.now + 1 < MAX_WORKERS }
-    requires hand { hand.items ≡ [] }
     requires chore { C.pre chore.old }
     ensures { C.step chore.old result chore.new }
 {
     let worker = boxes.len() as u32 + 1;
-    let mut hand = Some(hand);
     let (_, done) = join_mut(
         rt,
         &mut ||
-            requires { IsSync R.row × IsSync G.row × IfSome hand (λ buffer. buffer.items ≡ []) }
-        {
-            if let Some(buffer) = hand.take() {
-                serve(rt, other, worker, buffer, ended, gate);
-            }
-        },
+            requires { IsSync R.row × IsSync G.row }
+        { serve(rt, alloc, other, worker, ended, gate) },
         &mut || -> A
             requires { IsSync R.row × IsSync G.row × (length boxes.now + 1 < MAX_WORKERS) × C.pre chore.now }
             ensures { C.step chore.entry.now result chore.exit.now }
-        { beside_workers(rt, alloc, boxes, ended, size, gate, chore) },
+        { beside_workers(rt, alloc, boxes, ended, gate, chore) },
     );
     done
 }
 
-/// Runs a chore, and beside it a worker for each letter box, each on a thread of its own with a buffer of `size` bytes.
-/// They end once the chore has ended. A worker whose buffer is refused isn't started, and one that can't be started
-/// makes nothing.
+/// Runs a chore, and beside it a worker for each letter box, each on a thread of its own. They end once the chore has
+/// ended. A worker that can't be started makes nothing.
 pub fn with_workers<R: Threads + Clock + Sync, G: Gate + Sync, C: FnMut() -> A, A>(
     rt: &R,
     alloc: Global,
     boxes: &[LetterBox],
-    size: usize,
     gate: &G,
     chore: &mut C,
 ) -> A
@@ -197,7 +212,7 @@ pub fn with_workers<R: Threads + Clock + Sync, G: Gate + Sync, C: FnMut() -> A, 
     ensures { C.step chore.old result chore.new }
 {
     let ended = AtomicU64::new(0);
-    beside_workers(rt, alloc, boxes, &ended, size, gate, chore)
+    beside_workers(rt, alloc, boxes, &ended, gate, chore)
 }
 
 // The round, once this is its last owner. A worker is a piece behind at most, unless its gate holds it.
@@ -247,8 +262,8 @@ impl LastingCrew {
         self.room
     }
 
-    /// Shares a round with the workers of these letter boxes. Where there is none, or memory was refused, the round is the
-    /// caller's alone.
+    /// Shares a round with the workers of these letter boxes. Where there is none, the round has one piece, or memory was
+    /// refused, the caller's thread has it alone.
     #[tactic(auto, unfolding(crate::specs::Shared::owners_view))]
     pub fn share<'s, 'a>(
         &mut self,
@@ -269,19 +284,17 @@ impl LastingCrew {
         mem::swap(&mut slots, &mut self.slots);
         lay_out(&mut slots, &mut self.spare, self.size, &round);
         let shared = Shared::of(round, self.size, slots);
-        if boxes.is_empty() {
-            let owners = Owners::One(shared);
-            return Sharing { owners, boxes };
-        }
-        let value = match Arc::new(alloc, shared) {
-            Ok(shared) => {
-                send(&shared, boxes, count);
-                let owners = Owners::Several(shared);
-                return Sharing { owners, boxes };
+        let owners = if boxes.is_empty() || count < 2 {
+            Owners::One(shared)
+        } else {
+            match Arc::new(alloc, shared) {
+                Ok(shared) => {
+                    send(alloc, &shared, boxes, count);
+                    Owners::Several(shared)
+                }
+                Err(AllocFailed { value }) => Owners::One(value),
             }
-            Err(AllocFailed { value }) => value,
         };
-        let owners = Owners::One(value);
         Sharing { owners, boxes }
     }
 
@@ -323,11 +336,11 @@ impl LastingCrew {
 }
 
 // Gives the round to as many workers as it has pieces besides the caller's: to those that were started first.
-fn send<'a>(shared: &Arc<Shared<'a>, Global>, boxes: &[LetterBox<'a>], count: u32) {
+fn send<'a>(alloc: Global, shared: &Arc<Shared<'a>, Global>, boxes: &[LetterBox<'a>], count: u32) {
     let others = boxes.len().min((count as usize).saturating_sub(1));
     for letters in &boxes[boxes.len() - others..] {
         if let Ok(theirs) = Arc::try_clone(shared) {
-            letters.put(theirs);
+            letters.put(alloc, theirs);
         }
     }
 }

@@ -1,27 +1,34 @@
 //! Where a worker that lasts looks for its next round.
-ghost use Rattle.std.specs.Prelude.{◌≡◌, vec_len, IfOk};
+ghost use Rattle.std.specs.Prelude.{◌≡◌, [], vec_len, IfOk, IfSome};
 
 use crate::shared::Shared;
 use counted_slot::{Counted, FREE, Fits, PRESENT, TAKEN};
 use std::alloc::{AllocError, Global};
 use std::sync::Arc;
+use std::sync::atomic::AtomicU64;
+use std::sync::atomic::Ordering::SeqCst;
 
-/// What a letter box holds: a shared round.
+/// What a letter box holds: a shared round, and an empty buffer where the worker's own has no room for its pieces.
 #[derive(Drop)]
 pub(crate) struct Letter<'a> {
-    round: Arc<Shared<'a>, Global>,
+    pub(crate) round: Arc<Shared<'a>, Global>,
+    pub(crate) hand: Option<Vec<u8>>,
 }
 
 impl<'a> Fits for Letter<'a> {
     type Tag = ();
 
-    ghost fits = { λ _ _. Unit {0} };
+    ghost use Rattle.std.specs.Prelude.{◌≡◌, [], IfSome};
+
+    ghost fits = { λ _ letter. IfSome letter.hand (λ hand. hand.items ≡ []) };
 }
 
 /// A worker's letter box: the caller's thread puts rounds in, one at a time, and the worker takes them out.
 #[derive(Drop)]
 pub struct LetterBox<'a> {
     slot: Counted<Option<Letter<'a>>>,
+    // How many bytes the worker's buffer has room for.
+    room: AtomicU64,
 }
 
 /// Returns this many empty letter boxes. `AllocError` if memory was refused.
@@ -36,25 +43,39 @@ pub fn letter_boxes<'a>(alloc: Global, count: u32) -> Result<Vec<LetterBox<'a>>,
 }
 
 impl<'a> LetterBox<'a> {
-    // An empty letter box.
+    // An empty letter box, of a worker without a buffer.
     fn new() -> LetterBox<'a> {
         LetterBox {
             slot: Counted::new(None, &()),
+            room: AtomicU64::new(0),
         }
     }
 
-    // Puts a round in. If there is one, or one is just being taken out, it is dropped, and others make its pieces.
-    pub(crate) fn put(&self, round: Arc<Shared<'a>, Global>) {
+    // Puts a round in, with a buffer for its pieces if the worker's own is too small. Where another round is still in the
+    // box, or is just being taken out, or memory for the buffer is refused, this worker gets none of the new one: others
+    // make its pieces.
+    pub(crate) fn put(&self, alloc: Global, round: Arc<Shared<'a>, Global>) {
+        let size = round.size;
+        let hand = if self.room.load(SeqCst) < size as u64 {
+            match Vec::with_capacity(alloc, size) {
+                Ok(hand) => Some(hand),
+                Err(AllocError) => return,
+            }
+        } else {
+            None
+        };
         let (found, claim) = self.slot.turn(FREE, TAKEN);
         if found == FREE {
-            claim.put(Some(Letter { round }), PRESENT);
+            claim.put(Some(Letter { round, hand }), PRESENT);
         } else {
             claim.done();
         }
     }
 
-    // Takes the round out, if there is one.
-    pub(crate) fn take(&self) -> Option<Arc<Shared<'a>, Global>> {
+    // Takes the letter out, if there is one.
+    pub(crate) fn take(&self) -> Option<Letter<'a>>
+        ensures { IfSome result (λ letter. IfSome letter.hand (λ hand. hand.items ≡ [])) }
+    {
         if self.slot.load() != PRESENT {
             return None;
         }
@@ -63,9 +84,11 @@ impl<'a> LetterBox<'a> {
             claim.done();
             return None;
         }
-        match claim.put(None, FREE) {
-            Some(letter) => Some(letter.round),
-            None => None,
-        }
+        claim.put(None, FREE)
+    }
+
+    // Notes how many bytes the worker's buffer has room for.
+    pub(crate) fn note(&self, room: usize) {
+        self.room.store(room as u64, SeqCst);
     }
 }

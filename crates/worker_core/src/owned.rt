@@ -11,12 +11,13 @@ use container_core::{Cut, Header, Key};
 use std::marker::Model;
 use std::snapshot::Snapshot;
 
-/// The chunks in the first `length` bytes of a buffer. Contracts see the round of these, and all bytes of the buffer.
+/// The chunks in the first `length` bytes of a buffer, and their header. Contracts see the round of these, and all bytes
+/// of the buffer.
 #[derive(Drop)]
 pub struct OwnedRound<'a> {
     task: Task,
     key: &'a Key,
-    header: &'a Header,
+    header: Header,
     first: u32,
     last: bool,
     cut: Cut,
@@ -34,26 +35,26 @@ impl<'a> Model for OwnedRound<'a> {
     ghost use Rattle.worker_core.specs.Parts.{IsCutBy};
 
     ghost view = { λ o. record {
-      round = round_of o.task o.key.now o.header.now o.first o.last (take o.length o.bytes.items);
+      round = round_of o.task o.key.now o.header o.first o.last (take o.length o.bytes.items);
       bytes = o.bytes.items;
       room = vec_capacity o.bytes;
     } };
 
     ghost invariant = { λ o. (o.length ≤ vec_len o.bytes)
-        × IsCutBy o.task o.header.now o.first o.cut (take o.length o.bytes.items) };
+        × IsCutBy o.task o.header o.first o.cut (take o.length o.bytes.items) };
 }
 
 impl<'a> OwnedRound<'a> {
     ghost use Rattle.std.specs.Prelude.{slice_index_or, None};
     ghost use Rattle.worker_core.specs.Slots.{expected_value};
 
-    /// Returns the round of the body in the first `length` bytes of a buffer. `cut` cuts as many plaintext bytes as that
-    /// has into chunks of the header's size. `first` is the number of its first chunk, and `last` whether its last chunk
-    /// is the last of all.
+    /// Returns the round of the body in the first `length` bytes of a buffer, with a copy of its header. `cut` cuts as
+    /// many plaintext bytes as that has into chunks of the header's size. `first` is the number of its first chunk, and
+    /// `last` whether its last chunk is the last of all.
     pub fn new(
         task: Task,
         key: &'a Key,
-        header: &'a Header,
+        header: &Header,
         first: u32,
         last: bool,
         cut: Cut,
@@ -70,7 +71,7 @@ impl<'a> OwnedRound<'a> {
         OwnedRound {
             task,
             key,
-            header,
+            header: header.copy(),
             first,
             last,
             cut,
@@ -104,7 +105,7 @@ impl<'a> OwnedRound<'a> {
         Round::new(
             self.task,
             self.key,
-            self.header,
+            &self.header,
             self.first,
             self.last,
             self.cut,
@@ -122,7 +123,7 @@ impl<'a> OwnedRound<'a> {
             number,
             task: self.task,
             key: Snapshot::of(self.key),
-            header: Snapshot::of(self.header),
+            header: Snapshot::of(&self.header),
             first: self.first,
             last: self.last,
             bytes: Snapshot::of(&self.bytes),
