@@ -209,6 +209,15 @@ worked_more fits does _ _ line _ _ _ _ _ _ _ _ told told' told'' w fit next line
   told = lines;
 }
 
+-- of equal names
+pub same-names : (fits : List ℕ → FileOutcome → Type 0) (does : List ℕ → FileOutcome → List Event → Type 0)
+    (names names' : List (List ℕ)) (status : ℕ) (old new : Option (List ℕ)) (failures failures' : Option ℕ)
+    (told told' : Option (List Event))
+    → names ≡ names' → AreWorked fits does names status old new failures failures' told told'
+    → AreWorked fits does names' status old new failures failures' told told'
+same-names fits does names names' status old new failures failures' told told' same w =
+    subst (λ l. AreWorked fits does l status old new failures failures' told told') same w
+
 -- one more name
 pub names-step : (files : List (Bor (List ℕ))) (i : ℕ) (d : Bor (List ℕ)) → i < length files
     → map (λ (f : Bor (List ℕ)). f.now) (take i files) ++ (get_or files i d).now ∷ []

@@ -9,3 +9,4 @@ pub mod Session
 pub mod Trace
 pub mod Unpiping
 pub mod Work
+pub mod Turns

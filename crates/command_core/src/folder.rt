@@ -3,6 +3,7 @@ ghost use Rattle.std.specs.Prelude.{◌≡◌, ◌≢◌, ℕ, ◌<◌, ◌≤�
 ghost use Rattle.std.specs.Prelude.{OnOk, OnErr, is_err, true};
 ghost use Rattle.io_core.specs.Streams.{Appends, AppendsFront, counted};
 ghost use Rattle.opening_core.specs.Engine.{HasHeader};
+ghost use Rattle.opening_core.specs.Workers.{AreWorkers};
 ghost use Rattle.opening_core.specs.Twice.{MayWrite, WritesAll, broken_by_read, broken_by_write};
 ghost use Rattle.output_core.specs.Bounds.{Admits, Exactly};
 ghost use Rattle.command_core.specs.Again.{IsAgainFault, IsBegun};
@@ -11,10 +12,10 @@ ghost use Rattle.command_core.specs.Trace.{Event, Closes, Creates, Discarded, Di
 ghost use Rattle.command_core.specs.Trace.{FailsToRewind, Finished, Finishes, IsCounted, IsLength, IsOpenedBy, IsReadAgain};
 ghost use Rattle.command_core.specs.Trace.{Nothing, Opens, Refuses, Rewinds};
 
-use claim_core::{Free, MAX_WORKERS};
+use claim_core::Free;
 use container_core::{Header, Key, MAX_OPENED, OpenFault};
 use ledger_core::{Failed, Source};
-use opening_core::{Plaintext, Stopped, write_again};
+use opening_core::{Plaintext, Stopped, Workers, write_again};
 use output_core::Output;
 use std::alloc::Global;
 use std::thread::Threads;
@@ -207,19 +208,25 @@ pub(crate) fn write_or_give_up<F: OpeningFolder>(
 
 // Writes the plaintext of a container that was checked, by reading it once more, to an output that may hold it. Then
 // finishes the output. On failure the output is given up.
-pub(crate) fn write_again_or_give_up<T: Threads + Clock + Sync, F: OpeningFolder, R: Source>(
+pub(crate) fn write_again_or_give_up<
+    'b,
+    'a,
+    T: Threads + Clock + Sync,
+    F: OpeningFolder,
+    R: Source,
+>(
     rt: &T,
     alloc: Global,
-    key: &Key,
+    key: &'a Key,
     header: &Header,
     reader: &mut R,
     folder: &mut F,
     output: F::Writer,
     max_bytes: u64,
-    workers: u32,
+    workers: Workers<'b, 'a>,
 ) -> Result<u64, Stopped>
     requires max_bytes { max_bytes ≤ MAX_OPENED }
-    requires workers { (0 < workers) × (workers ≤ MAX_WORKERS) }
+    requires workers { AreWorkers workers }
     requires may { IfSome (F.Writer.bound output)
         (MayWrite key.now header.now max_bytes (R.left reader.old) (F.Writer.taken output)) }
     ensures ok { IfOk result (λ n. (taken : Option (List ℕ))

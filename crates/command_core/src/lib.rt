@@ -10,22 +10,24 @@ pub mod folder;
 pub mod key_file;
 pub(crate) mod label;
 pub mod line;
+pub mod opening;
 pub(crate) mod reading;
 pub mod report;
 pub mod sealing_folder;
 pub mod sealing_stream;
 pub mod unpiping;
+pub mod verifying;
 
-pub use crate::commands::{
-    MAX_BYTES, MAX_OPENED_BYTES, OpenOptions, Outs, open_all, tell, verify_all,
-};
+pub use crate::commands::{MAX_BYTES, MAX_OPENED_BYTES, OpenOptions, Outs, tell};
 pub use crate::facts::{Facts, ShownLabel};
 pub use crate::folder::{Folder, FolderFault, OpeningFolder};
 pub use crate::key_file::{KeyFault, read_key};
 pub use crate::line::{FileFault, FileOutcome, Line};
+pub use crate::opening::open_all;
 pub use crate::report::Report;
 pub use crate::sealing_folder::SealingFolder;
 pub use crate::sealing_stream::SealingStream;
 pub use crate::unpiping::{OpeningStream, UnpipeOptions, unpipe_all};
+pub use crate::verifying::verify_all;
 pub use claim_core::MAX_WORKERS;
 pub use opening_core::Plaintext;

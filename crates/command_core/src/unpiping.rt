@@ -1,7 +1,8 @@
 //! Opening one file or stream to a stream: `unpipe`.
-ghost use Rattle.std.specs.Prelude.{◌≡◌, ℕ, ◌<◌, ◌≤◌, List, [], ◌∷◌, Option, IfSome, option_map};
+ghost use Rattle.std.specs.Prelude.{◌≡◌, ℕ, ◌<◌, ◌≤◌, List, [], ◌∷◌, length, Option, Some, IfSome, option_map};
 ghost use Rattle.command_core.specs.Session.{IsBoundChecked, IsShut};
 ghost use Rattle.io_core.specs.Streams.{counted};
+ghost use Rattle.opening_core.specs.Workers.{AreWorkers};
 ghost use Rattle.command_core.specs.Trace.{Does, Event, IsCounted, IsReadAgain, Opens};
 ghost use Rattle.command_core.specs.Unpiping.{HasUnpiped, HasUnpipedRead};
 ghost use Rattle.command_core.specs.Work.{AreTold, reading_failed};
@@ -9,17 +10,18 @@ ghost use Rattle.command_core.specs.Work.{AreTold, reading_failed};
 use crate::commands::{MAX_OPENED_BYTES, fault_again, tell};
 use crate::folder::Folder;
 use crate::line::{FileFault, FileOutcome};
-use crate::reading::{check_labelled, workers_for};
+use crate::reading::{check_labelled, room_to_start, workers_for, workers_from};
 use crate::report::Report;
 use claim_core::{Free, MAX_WORKERS};
 use container_core::{Header, Key};
 use io_core::Sink;
 use ledger_core::Failed;
-use opening_core::write_again;
+use opening_core::{Workers, boxes_beside, write_again};
 use output_core::Output;
 use std::alloc::Global;
 use std::thread::Threads;
 use std::time::Clock;
+use worker_core::with_workers;
 
 /// What `unpipe_all` works on.
 #[derive(Clone, Copy, Debug)]
@@ -69,7 +71,51 @@ impl<W: Sink> OpeningStream for W {
 
 // Checks the whole container of a file that is read, and writes its plaintext by reading it again. Returns the stream
 // too.
-fn unpipe_read<T: Threads + Clock + Sync, F: Folder, W: OpeningStream + Drop>(
+fn unpipe_read<'b, 'a, T: Threads + Clock + Sync, F: Folder, W: OpeningStream + Drop>(
+    rt: &T,
+    alloc: Global,
+    key: &'a Key,
+    folder: &mut F,
+    reader: &mut F::Reader,
+    name: &str,
+    stream: W,
+    options: &UnpipeOptions,
+    workers: Workers<'b, 'a>,
+) -> (FileOutcome, W)
+    requires workers { AreWorkers workers }
+    requires max_bytes { options.now.max_bytes ≤ MAX_OPENED_BYTES }
+    requires shut { IsShut (W.bound stream) (W.taken stream) }
+    requires opened { (before : Option (List Event))
+        × Does (Opens name.now (F.Reader.left reader.old)) before (F.told folder.old) }
+    ensures run { (before : Option (List Event))
+        → Does (Opens name.now (F.Reader.left reader.old)) before (F.told folder.old)
+        → HasUnpipedRead key.now options.now.max_bytes (option_map (λ b. b.now) options.now.label) name.now
+        (W.taken stream) (W.taken result.1) (W.failures stream) (W.failures result.1) before (F.told folder.new) result.0 }
+    ensures count { IsCounted (F.told folder.new) (F.Reader.failures reader.new)
+        (counted (reading_failed result.0) (F.Reader.failures reader.old)) }
+{
+    let most = options.max_bytes;
+    let header = match check_labelled(rt, alloc, key, reader, most, workers, options.label) {
+        Ok((header, _)) => header,
+        Err(fault) => return (FileOutcome::Failed(fault), stream),
+    };
+    match folder.again(name, reader) {
+        Ok(()) => {}
+        Err(Failed) => return (FileOutcome::Failed(FileFault::SpoolFailed), stream),
+    }
+    let mut stream = stream;
+    stream.allow_checked(folder, key, &header, name, reader);
+    match write_again(
+        rt, alloc, key, &header, reader, stream, most, workers, &Free,
+    ) {
+        (Ok(n), stream) => (FileOutcome::Opened(n), stream),
+        (Err(stopped), stream) => (FileOutcome::Failed(fault_again(stopped)), stream),
+    }
+}
+
+// Unpipes what is read of a file, with workers that last for both readings. Where its length isn't known each reading
+// starts its own, as nothing may come of it for long. The reserve is freed once the workers were started.
+fn unpipe_beside<T: Threads + Clock + Sync, F: Folder, W: OpeningStream + Drop>(
     rt: &T,
     alloc: Global,
     key: &Key,
@@ -91,24 +137,42 @@ fn unpipe_read<T: Threads + Clock + Sync, F: Folder, W: OpeningStream + Drop>(
     ensures count { IsCounted (F.told folder.new) (F.Reader.failures reader.new)
         (counted (reading_failed result.0) (F.Reader.failures reader.old)) }
 {
-    let most = options.max_bytes;
-    let workers = workers_for(folder.length(reader), options.workers);
-    let header = match check_labelled(rt, alloc, key, reader, most, workers, options.label) {
-        Ok((header, _)) => header,
-        Err(fault) => return (FileOutcome::Failed(fault), stream),
+    let bytes = folder.length(reader);
+    let count = workers_from(bytes, options.workers, true);
+    let Some(reserve) = room_to_start(alloc, count) else {
+        let workers = Workers::ToStart(workers_for(bytes, options.workers));
+        return unpipe_read(
+            rt, alloc, key, folder, reader, name, stream, options, workers,
+        );
     };
-    match folder.again(name, reader) {
-        Ok(()) => {}
-        Err(Failed) => return (FileOutcome::Failed(FileFault::SpoolFailed), stream),
-    }
-    let mut stream = stream;
-    stream.allow_checked(folder, key, &header, name, reader);
-    match write_again(
-        rt, alloc, key, &header, reader, stream, most, workers, &Free,
-    ) {
-        (Ok(n), stream) => (FileOutcome::Opened(n), stream),
-        (Err(stopped), stream) => (FileOutcome::Failed(fault_again(stopped)), stream),
-    }
+    let mut reserve = Some(reserve);
+    let boxes = boxes_beside(alloc, count);
+    let boxes = boxes.as_slice();
+    let mut kept = Some(stream);
+    let mut chore = || -> (FileOutcome, W)
+        requires workers { length boxes.now < MAX_WORKERS }
+        requires max_bytes { options.now.max_bytes ≤ MAX_OPENED_BYTES }
+        requires shut { (stream : W) × (kept ≡ Some stream) × IsShut (W.bound stream) (W.taken stream) }
+        requires opened { (before : Option (List Event))
+            × Does (Opens name.now (F.Reader.left reader.now)) before (F.told folder.now) }
+        ensures run { (stream : W) (before : Option (List Event)) → kept.entry ≡ Some stream
+            → Does (Opens name.entry.now (F.Reader.left reader.entry.now)) before (F.told folder.entry.now)
+            → HasUnpipedRead key.entry.now options.entry.now.max_bytes
+            (option_map (λ b. b.now) options.entry.now.label) name.entry.now (W.taken stream) (W.taken result.1)
+            (W.failures stream) (W.failures result.1) before (F.told folder.exit.now) result.0 }
+        ensures count { IsCounted (F.told folder.exit.now) (F.Reader.failures reader.exit.now)
+            (counted (reading_failed result.0) (F.Reader.failures reader.entry.now)) }
+    {
+        let Some(stream) = kept.take() else {
+            unreachable!();
+        };
+        reserve = None;
+        let workers = Workers::Running(boxes);
+        unpipe_read(
+            rt, alloc, key, folder, reader, name, stream, options, workers,
+        )
+    };
+    with_workers(rt, alloc, boxes, &Free, &mut chore)
 }
 
 // Opens a file, and unpipes what is read of it. Returns the stream too.
@@ -131,7 +195,16 @@ fn unpipe<T: Threads + Clock + Sync, F: Folder, W: OpeningStream + Drop>(
     let Ok(mut reader) = folder.open(name) else {
         return (FileOutcome::Failed(FileFault::CannotOpen), stream);
     };
-    let (outcome, stream) = unpipe_read(rt, alloc, key, folder, &mut reader, name, stream, options);
+    let (outcome, stream) = unpipe_beside(
+        rt,
+        alloc,
+        key,
+        folder,
+        &mut reader,
+        name,
+        stream,
+        options,
+    );
     folder.close(name, reader);
     (outcome, stream)
 }

@@ -7,7 +7,7 @@ use container_core::{Key, MAX_OPENED, OpenFault, Shape, seal};
 use crew_core::{Free, MAX_WORKERS};
 use io_core::{Failed, Source};
 use io_memory::{FromMemory, Schedule, ToMemory};
-use opening_core::{Readings, Stopped, run_check, run_open_twice, write_again};
+use opening_core::{Readings, Stopped, Workers, run_check, run_open_twice, write_again};
 use output_tests::CheckedOutput;
 use std::alloc::Global;
 use std::test::Fail;
@@ -407,6 +407,7 @@ fn checked<T: Threads + Clock + Sync>(
     let (header, _) = run_check(rt, alloc, &key, &mut reader, MAX_OPENED, workers, &Free).ok()?;
     let output = CheckedOutput::new(alloc, &key, &header, second);
     let mut again = FromMemory::new(second, MOST, Schedule::Never);
+    let workers = Workers::ToStart(workers);
     let (done, output) = write_again(
         rt, alloc, &key, &header, &mut again, output, MAX_OPENED, workers, &Free,
     );

@@ -10,7 +10,7 @@ use claim_core::{Gate, MAX_DEPTH, MAX_WORKERS};
 use container_core::{Header, Key, MAX_OPENED, SealFault};
 use folder_core::{Outputs, Rest, lent_of, taken_in_hand};
 use io_core::Source;
-use opening_core::{Stopped, write_again};
+use opening_core::{Stopped, Workers, write_again};
 use sealing_core::pipe;
 use std::alloc::Global;
 use std::marker::Brand;
@@ -43,6 +43,7 @@ fn again_named<'a, N: Rest, T: Threads + Clock + Sync, R: Source, F: Outputs, G:
         (F.failures folder.old) (F.failures result.1.now) result.0 }
 {
     let output = taken_in_hand::<F, N>(folder);
+    let workers = Workers::ToStart(workers);
     let (done, output) = write_again(
         rt, alloc, key, header, reader, output, max_bytes, workers, gate,
     );

@@ -13,6 +13,7 @@ ghost use Rattle.container_core.specs.Opening.{longest};
 ghost use Rattle.io_core.specs.Streams.{Appends, Keeps, counted};
 ghost use Rattle.opening_core.specs.Engine.{open_read_failed, open_write_failed};
 ghost use Rattle.opening_core.specs.Fronts.{Answers, SaysLength};
+ghost use Rattle.opening_core.specs.Workers.{AreWorkers};
 ghost use Rattle.opening_core.specs.Twice.{CountsOn, HasOpenedTwice, HasWrittenAgain, MayWrite, MayWriteIt};
 ghost use Rattle.opening_core.specs.Twice.{broken_by_read, broken_by_write};
 ghost use Rattle.opening_core.specs.Windows.{HasBegun, HasSent, MayTake};
@@ -21,6 +22,7 @@ use crate::front::open_front;
 use crate::pouring::Pouring;
 use crate::run::run_check;
 use crate::windows::open_body;
+use crate::workers::Workers;
 use claim_core::{Gate, MAX_WORKERS, usual_opening};
 use container_core::{Header, Key, MAX_OPENED, OpenFault};
 use io_core::{Failed, Source};
@@ -84,22 +86,22 @@ fn stop_at(fault: OpenFault) -> Stopped
 }
 
 // Writes the plaintext of a container's body, each round while the next is checked. Returns the writer too.
-fn write_body<T: Threads + Clock + Sync, R: Source, W: Output + Drop, G: Gate + Sync>(
+fn write_body<'b, 'a, T: Threads + Clock + Sync, R: Source, W: Output + Drop, G: Gate + Sync>(
     rt: &T,
     alloc: Global,
-    key: &Key,
+    key: &'a Key,
     header: &Header,
     reader: &mut R,
     writer: W,
     max_bytes: u64,
-    workers: u32,
+    workers: Workers<'b, 'a>,
     gate: &G,
 ) -> (Result<u64, OpenFault>, W)
     requires front { SaysLength key.now header.now }
     requires limit { longest max_bytes header.now
         ≡ container_limit (length header.now) (size_in header.now) max_bytes }
     requires max_bytes { max_bytes ≤ MAX_OPENED }
-    requires workers { (0 < workers) × (workers ≤ MAX_WORKERS) }
+    requires workers { AreWorkers workers }
     requires may { IfSome (W.bound writer)
         (MayTake Task.Opening key.now header.now max_bytes (R.left reader.old) (W.taken writer)) }
     ensures written { IfOk result.0 (λ n. (plain : List ℕ) × (n ≡ length plain)
@@ -115,7 +117,7 @@ fn write_body<T: Threads + Clock + Sync, R: Source, W: Output + Drop, G: Gate + 
     ensures write { W.failures result.1 ≡ counted (open_write_failed result.0) (W.failures writer) }
 {
     let mut out = Pouring { sink: writer };
-    let window = usual_opening(header.chunk(), workers);
+    let window = usual_opening(header.chunk(), workers.count());
     let done = open_body(
         rt,
         alloc,
@@ -133,23 +135,23 @@ fn write_body<T: Threads + Clock + Sync, R: Source, W: Output + Drop, G: Gate + 
     (done, sink)
 }
 
-/// Reads once more a container with this header, which was checked before, with 1 to 16 workers. Writes its plaintext,
-/// each chunk once it was checked again. This holds whatever the reading gives. At `Ok` it is a container with this
-/// header, and its whole plaintext was written. Else what was written is chunks that had passed the check, from the
+/// Reads once more a container with this header, which was checked before, with workers that may run already. Writes its
+/// plaintext, each chunk once it was checked again. This holds whatever the reading gives. At `Ok` it is a container with
+/// this header, and its whole plaintext was written. Else what was written is chunks that had passed the check, from the
 /// first on; of a container with another header it is nothing. Returns the writer too.
-pub fn write_again<T: Threads + Clock + Sync, R: Source, W: Output + Drop, G: Gate + Sync>(
+pub fn write_again<'b, 'a, T: Threads + Clock + Sync, R: Source, W: Output + Drop, G: Gate + Sync>(
     rt: &T,
     alloc: Global,
-    key: &Key,
+    key: &'a Key,
     header: &Header,
     reader: &mut R,
     writer: W,
     max_bytes: u64,
-    workers: u32,
+    workers: Workers<'b, 'a>,
     gate: &G,
 ) -> (Result<u64, Stopped>, W)
     requires max_bytes { max_bytes ≤ MAX_OPENED }
-    requires workers { (0 < workers) × (workers ≤ MAX_WORKERS) }
+    requires workers { AreWorkers workers }
     requires may { IfSome (W.bound writer)
         (MayWrite key.now header.now max_bytes (R.left reader.old) (W.taken writer)) }
     ensures { HasWrittenAgain key.now header.now max_bytes (R.left reader.old)
@@ -212,7 +214,7 @@ pub fn run_open_twice<T: Threads + Clock + Sync, S: Readings, W: Output + Drop, 
         &mut second,
         writer,
         max_bytes,
-        workers,
+        Workers::ToStart(workers),
         gate,
     );
     source.end(second);

@@ -1,6 +1,6 @@
 //! Opening in rounds: workers open or only check a window of a container. Meanwhile the caller's thread takes the
-//! plaintext of the previous window and reads the next. The workers are started once, after the first window was read,
-//! and last until the container's end.
+//! plaintext of the previous window and reads the next. Workers that don't run yet are started once the first window was
+//! read, and last until the container's end.
 //!
 //! A full window is opened once one more byte was seen after it, so its last chunk isn't the last of all. A wrong
 //! length comes before a chunk that doesn't check. So a container with such a chunk is read to its end, or to one byte
@@ -16,6 +16,7 @@ ghost use Rattle.io_core.specs.Streams.{Appends, Consumes, IsAtEnd, counted};
 ghost use Rattle.opening_core.specs.Engine.{HasHeader, HasReadContainer, OpensTo, open_read_failed};
 ghost use Rattle.opening_core.specs.Engine.{open_write_failed};
 ghost use Rattle.opening_core.specs.Fronts.{Answers, SaysLength};
+ghost use Rattle.opening_core.specs.Workers.{AreWorkers};
 ghost use Rattle.opening_core.specs.Windows.{HasBegun, HasSent, HasTaken, most_first, IsReady, MayTake};
 
 use crate::front::{open_front, refuse};
@@ -23,14 +24,15 @@ use crate::rooms::Rooms;
 use crate::rounds::{checked, open_full, open_last, sealed_bytes};
 use crate::taking::Taking;
 use crate::window::Window;
-use claim_core::{Gate, MAX_WINDOW, MAX_WORKERS, usual_opening};
+use crate::workers::{Workers, boxes_beside};
+use claim_core::{Gate, MAX_WINDOW, usual_opening};
 use container_core::laws::rounds_open;
 use container_core::{Header, Key, MAX_OPENED, OpenFault, TAG, begin_within};
 use io_core::Source;
 use std::alloc::{AllocError, Global};
 use std::thread::Threads;
 use std::time::Clock;
-use worker_core::{LetterBox, Task, letter_boxes, with_workers};
+use worker_core::{LetterBox, Task, with_workers};
 
 // For how many chunks of a container's body room is made, where `bytes` bytes were read.
 fn pieces_of(bytes: usize, header: &Header, window: u32) -> u32
@@ -89,7 +91,7 @@ fn open_begun<'a, R: Source, G: Gate, O: Taking>(
     alloc: Global,
     task: Task,
     key: &'a Key,
-    header: &'a Header,
+    header: &Header,
     rooms: &mut Rooms,
     boxes: &[LetterBox<'a>],
     reader: &mut R,
@@ -166,15 +168,15 @@ fn open_begun<'a, R: Source, G: Gate, O: Taking>(
 
 // Opens a container's body in rounds, and has its plaintext taken where it isn't only checked. Returns how many bytes
 // the plaintext has.
-pub(crate) fn open_body<'a, T: Threads + Clock + Sync, R: Source, G: Gate + Sync, O: Taking>(
+pub(crate) fn open_body<'b, 'a, T: Threads + Clock + Sync, R: Source, G: Gate + Sync, O: Taking>(
     rt: &T,
     alloc: Global,
     task: Task,
     key: &'a Key,
-    header: &'a Header,
+    header: &Header,
     reader: &mut R,
     max_bytes: u64,
-    workers: u32,
+    workers: Workers<'b, 'a>,
     window: u32,
     out: &mut O,
     gate: &G,
@@ -184,7 +186,7 @@ pub(crate) fn open_body<'a, T: Threads + Clock + Sync, R: Source, G: Gate + Sync
     requires limit { longest max_bytes header.now
         ≡ container_limit (length header.now) (size_in header.now) max_bytes }
     requires max_bytes { max_bytes ≤ MAX_OPENED }
-    requires workers { (0 < workers) × (workers ≤ MAX_WORKERS) }
+    requires workers { AreWorkers workers }
     requires window { (0 < window) × (window ≤ MAX_WINDOW) }
     requires may { IfSome (O.bound out.old)
         (MayTake task key.now header.now max_bytes (R.left reader.old) (O.bytes out.old)) }
@@ -209,12 +211,16 @@ pub(crate) fn open_body<'a, T: Threads + Clock + Sync, R: Source, G: Gate + Sync
         Ok(rooms) => rooms,
         Err(fault) => return Err(fault),
     };
-    // More workers than a round has pieces would have nothing to do. Without letter boxes there is one worker.
-    let boxes = match letter_boxes(alloc, workers.min(rooms.crew.room()) - 1) {
-        Ok(boxes) => boxes,
-        Err(AllocError) => Vec::new(alloc),
+    let count = match workers {
+        Workers::ToStart(count) => count,
+        Workers::Running(boxes) => {
+            return open_begun(
+                alloc, task, key, header, &mut rooms, boxes, reader, max_bytes, window, out, gate,
+            );
+        }
     };
-    let room = task.room(header.chunk());
+    // More workers than a round has pieces would have nothing to do.
+    let boxes = boxes_beside(alloc, count.min(rooms.crew.room()));
     let boxes = boxes.as_slice();
     let kept = &mut rooms;
     let mut chore = || -> Result<u64, OpenFault>
@@ -258,28 +264,28 @@ pub(crate) fn open_body<'a, T: Threads + Clock + Sync, R: Source, G: Gate + Sync
             alloc, task, key, header, kept, boxes, reader, max_bytes, window, out, gate,
         )
     };
-    with_workers(rt, alloc, boxes, room, gate, &mut chore)
+    with_workers(rt, alloc, boxes, gate, &mut chore)
 }
 
-/// Opens all that the reader has left with 1 to 16 workers, in rounds of `window` chunks, or of `usual_opening` where
+/// Opens all that the reader has left, in rounds of `window` chunks, or of `usual_opening` where
 /// `window` is `None`. Has its plaintext taken where the task is `Opening`. Returns the header and how many bytes the
 /// plaintext has, or the first fault of the container. At a failure some of the plaintext was taken. Of an input that
 /// is too long one byte past the longest container is read.
-pub(crate) fn open_rounds<T: Threads + Clock + Sync, R: Source, G: Gate + Sync, O: Taking>(
+pub(crate) fn open_rounds<'b, 'a, T: Threads + Clock + Sync, R: Source, G: Gate + Sync, O: Taking>(
     rt: &T,
     alloc: Global,
     task: Task,
-    key: &Key,
+    key: &'a Key,
     reader: &mut R,
     max_bytes: u64,
-    workers: u32,
+    workers: Workers<'b, 'a>,
     window: Option<u32>,
     out: &mut O,
     gate: &G,
 ) -> Result<(Header, u64), OpenFault>
     requires task { task ≢ Task.Sealing }
     requires max_bytes { max_bytes ≤ MAX_OPENED }
-    requires workers { (0 < workers) × (workers ≤ MAX_WORKERS) }
+    requires workers { AreWorkers workers }
     requires window { IfSome window (λ chunks. (0 < chunks) × (chunks ≤ MAX_WINDOW)) }
     requires unbounded { O.bound out.old ≡ None }
     requires kept { O.writes ≡ false }
@@ -294,7 +300,7 @@ pub(crate) fn open_rounds<T: Threads + Clock + Sync, R: Source, G: Gate + Sync, 
 {
     match open_front(key, reader, max_bytes) {
         Ok(header) => {
-            let window = window.unwrap_or(usual_opening(header.chunk(), workers));
+            let window = window.unwrap_or(usual_opening(header.chunk(), workers.count()));
             match open_body(
                 rt, alloc, task, key, &header, reader, max_bytes, workers, window, out, gate,
             ) {

@@ -6,7 +6,7 @@ use Rattle.command_core.proofs.Openings.{good_of, may_again, not_repeated, opene
 use Rattle.command_core.proofs.Openings.{refusal_quiet, refused, refused_twice, stopped_twice}
 use Rattle.command_core.proofs.Traces.{counted_as, counted_if, counted_more, counted_new, counted_on, counted_through}
 use Rattle.command_core.proofs.Traces.{ends_as}
-use Rattle.command_core.proofs.commands.open_again.Goals as goal
+use Rattle.command_core.proofs.opening.open_again.Goals as goal
 
 pub returns-in-Err-clause-events : goal.returns-in-Err-clause-events
 returns-in-Err-clause-events g c = λ before opens. refused _ _ _ _ _ _ _ _ _ c.in-Err.ensures.exact opens

@@ -4,7 +4,7 @@ use Rattle.command_core.specs.Trace.{Discarded, Ends, Finished}
 use Rattle.command_core.proofs.Openings.{good_by, may_once, not_written, opened_once, read_by_opening, read_once, refusal_quiet, refused}
 use Rattle.command_core.proofs.Openings.{refused_once}
 use Rattle.command_core.proofs.Traces.{counted_if, counted_new, ends_as}
-use Rattle.command_core.proofs.commands.open_once.Goals as goal
+use Rattle.command_core.proofs.opening.open_once.Goals as goal
 
 pub returns-in-Err-clause-events : goal.returns-in-Err-clause-events
 returns-in-Err-clause-events g c = λ before opens. refused _ _ _ _ _ _ _ _ _ c.in-Err.ensures.exact opens

@@ -1,0 +1,7 @@
+use Rattle.command_core.proofs.Telling.{worked_more}
+use Rattle.command_core.proofs.opening.open_from.Goals as goal
+
+pub returns : goal.returns
+returns g c = λ old told before so-far opens.
+    c.open_rest.ensures old told (worked_more _ _ _ _ _ _ _ _ _ _ _ _ _ _ _ _ so-far c.open_opened-outcome.ensures.fits
+    (c.open_opened-outcome.ensures.does before opens) (c.tell-status.ensures _ _ _ so-far.told) c.requires.name.1)

@@ -1,0 +1,484 @@
+//! Opening: each file in turn, with its line on standard output.
+//!
+//! The first file that is worth several workers starts them, once, and they last to the end of the command. Until then a
+//! file whose length isn't known starts its own for each reading, as nothing may come of it for long.
+ghost use Rattle.std.specs.Prelude.{◌≡◌, ℕ, ◌+◌, ◌<◌, ◌≤◌, List, [], ◌∷◌, ◌++◌, length, map, take, Option, Some, Ok, Err};
+ghost use Rattle.std.specs.Prelude.{IfOk, IfErr, IfSome, OnOk, option_map, MatchOption};
+ghost use Rattle.io_core.specs.Streams.{counted};
+ghost use Rattle.opening_core.specs.Workers.{AreWorkers};
+ghost use Rattle.command_core.specs.Trace.{Does, Event, IsCounted, Opens};
+ghost use Rattle.command_core.specs.Turns.{AreOpened, IsFileAt, Printed, printed};
+ghost use Rattle.command_core.specs.Work.{AreInRange, AreWorked, IsOfOpening, IsOpenable};
+ghost use Rattle.command_core.specs.Work.{Opening, OpeningRead, asked_label, asked_output, output_for};
+ghost use Rattle.command_core.specs.Work.{reading_failed};
+
+use crate::commands::{MAX_OPENED_BYTES, OpenOptions, Outs, SUFFIX, fault_again, tell};
+use crate::folder::{FolderFault, OpeningFolder, write_again_or_give_up, write_or_give_up};
+use crate::line::{FileFault, FileOutcome};
+use crate::reading::{check_labelled, read_labelled, room_to_start, workers_for, workers_from};
+use crate::report::Report;
+use claim_core::{Free, MAX_WORKERS};
+use container_core::{Key, OpenFault};
+use ledger_core::Failed;
+use opening_core::{Workers, boxes_beside};
+use std::alloc::Global;
+use std::thread::Threads;
+use std::time::Clock;
+use worker_core::{LetterBox, with_workers};
+
+// The name of the output of a file: the one that is given, or else that of a sealed file, at least one byte before
+// `.stm`.
+fn output_name<'n>(name: &'n str, to: Option<&'n str>) -> Option<&'n str>
+    ensures name { IfSome result (λ output. output.now ≡ output_for (option_map (λ to. to.now) to.entry) name.now) }
+    ensures openable { MatchOption result (¬ IsOpenable (option_map (λ to. to.now) to.entry) name.now)
+        (λ output. IsOpenable (option_map (λ to. to.now) to.entry) name.now) }
+{
+    if let Some(to) = to {
+        return Some(to);
+    }
+    let output = name.strip_suffix(SUFFIX)?;
+    if output.is_empty() {
+        None
+    } else {
+        Some(output)
+    }
+}
+
+// What an output that was refused is reported as.
+fn refusal(fault: FolderFault) -> FileFault
+    ensures exists { fault ≡ FolderFault.Exists → result ≡ FileFault.OutputExists }
+    ensures failed { fault ≡ FolderFault.Failed → result ≡ FileFault.CannotCreate }
+{
+    match fault {
+        FolderFault::Exists => FileFault::OutputExists,
+        FolderFault::Failed => FileFault::CannotCreate,
+    }
+}
+
+// Opens a file that can be read again: a first reading checks its whole container. Then the output is created, and a
+// second reading writes the plaintext.
+fn open_again<'b, 'a, T: Threads + Clock + Sync, F: OpeningFolder>(
+    rt: &T,
+    alloc: Global,
+    key: &'a Key,
+    folder: &mut F,
+    reader: &mut F::Reader,
+    name: &str,
+    output: &str,
+    options: &OpenOptions,
+    workers: Workers<'b, 'a>,
+) -> FileOutcome
+    requires range { AreInRange options.now }
+    requires workers { AreWorkers workers }
+    requires name { IsOpenable (asked_output options.now) name.now }
+    requires opened { (before : Option (List Event))
+        × Does (Opens name.now (F.Reader.left reader.old)) before (F.told folder.old) }
+    ensures outcome { IsOfOpening (asked_output options.now) name.now result }
+    ensures events { (before : Option (List Event))
+        → Does (Opens name.now (F.Reader.left reader.old)) before (F.told folder.old)
+        → Does (OpeningRead key.now options.now.max_bytes (asked_label options.now) output.now name.now result) before
+        (F.told folder.new) }
+    ensures count { IsCounted (F.told folder.new) (F.Reader.failures reader.new)
+        (counted (reading_failed result) (F.Reader.failures reader.old)) }
+{
+    let most = options.max_bytes;
+    let header = match check_labelled(rt, alloc, key, reader, most, workers, options.label) {
+        Ok((header, _)) => header,
+        Err(fault) => return FileOutcome::Failed(fault),
+    };
+    match folder.again(name, reader) {
+        Ok(()) => {}
+        Err(Failed) => return FileOutcome::Failed(FileFault::Unopened(OpenFault::Read)),
+    }
+    let mut writer = match folder.create(output) {
+        Ok(writer) => writer,
+        Err(fault) => return FileOutcome::Failed(refusal(fault)),
+    };
+    folder.allow_checked(&mut writer, key, &header, name, reader);
+    match write_again_or_give_up(
+        rt, alloc, key, &header, reader, folder, writer, most, workers,
+    ) {
+        Ok(n) => FileOutcome::Opened(n),
+        Err(stopped) => FileOutcome::Failed(fault_again(stopped)),
+    }
+}
+
+// Opens a file that can be read only once: its plaintext is in memory until its whole container was checked.
+fn open_once<'b, 'a, T: Threads + Clock + Sync, F: OpeningFolder>(
+    rt: &T,
+    alloc: Global,
+    key: &'a Key,
+    folder: &mut F,
+    reader: &mut F::Reader,
+    name: &str,
+    output: &str,
+    options: &OpenOptions,
+    workers: Workers<'b, 'a>,
+) -> FileOutcome
+    requires range { AreInRange options.now }
+    requires workers { AreWorkers workers }
+    requires name { IsOpenable (asked_output options.now) name.now }
+    requires opened { (before : Option (List Event))
+        × Does (Opens name.now (F.Reader.left reader.old)) before (F.told folder.old) }
+    ensures outcome { IsOfOpening (asked_output options.now) name.now result }
+    ensures events { (before : Option (List Event))
+        → Does (Opens name.now (F.Reader.left reader.old)) before (F.told folder.old)
+        → Does (OpeningRead key.now options.now.max_bytes (asked_label options.now) output.now name.now result) before
+        (F.told folder.new) }
+    ensures count { IsCounted (F.told folder.new) (F.Reader.failures reader.new)
+        (counted (reading_failed result) (F.Reader.failures reader.old)) }
+{
+    let most = options.max_bytes;
+    let plain = match read_labelled(rt, alloc, key, reader, most, workers, options.label) {
+        Ok(plain) => plain,
+        Err(fault) => return FileOutcome::Failed(fault),
+    };
+    let mut writer = match folder.create(output) {
+        Ok(writer) => writer,
+        Err(fault) => return FileOutcome::Failed(refusal(fault)),
+    };
+    folder.allow_plain(&mut writer, key, name, &plain);
+    match write_or_give_up(folder, writer, &plain) {
+        Ok(()) => FileOutcome::Opened(plain.len()),
+        Err(Failed) => FileOutcome::Failed(FileFault::Unopened(OpenFault::Write)),
+    }
+}
+
+// Opens a file that is read, in one of the two ways.
+fn open_read<'b, 'a, T: Threads + Clock + Sync, F: OpeningFolder>(
+    rt: &T,
+    alloc: Global,
+    key: &'a Key,
+    folder: &mut F,
+    reader: &mut F::Reader,
+    name: &str,
+    output: &str,
+    options: &OpenOptions,
+    workers: Workers<'b, 'a>,
+) -> FileOutcome
+    requires range { AreInRange options.now }
+    requires workers { AreWorkers workers }
+    requires name { IsOpenable (asked_output options.now) name.now }
+    requires opened { (before : Option (List Event))
+        × Does (Opens name.now (F.Reader.left reader.old)) before (F.told folder.old) }
+    ensures outcome { IsOfOpening (asked_output options.now) name.now result }
+    ensures events { (before : Option (List Event))
+        → Does (Opens name.now (F.Reader.left reader.old)) before (F.told folder.old)
+        → Does (OpeningRead key.now options.now.max_bytes (asked_label options.now) output.now name.now result) before
+        (F.told folder.new) }
+    ensures count { IsCounted (F.told folder.new) (F.Reader.failures reader.new)
+        (counted (reading_failed result) (F.Reader.failures reader.old)) }
+{
+    if folder.can_repeat(reader) {
+        open_again(
+            rt, alloc, key, folder, reader, name, output, options, workers,
+        )
+    } else {
+        open_once(
+            rt, alloc, key, folder, reader, name, output, options, workers,
+        )
+    }
+}
+
+// Opens a file for reading, where a name of its output is given or follows from its own. At `Err` nothing more is done.
+fn begin<F: OpeningFolder>(
+    folder: &mut F,
+    name: &str,
+    options: &OpenOptions,
+) -> Result<F::Reader, FileOutcome>
+    requires { AreInRange options.now }
+    ensures opens { OnOk result (IsOpenable (asked_output options.now) name.now) }
+    ensures opened { IfOk result (λ reader.
+        Does (Opens name.now (F.Reader.left reader)) (F.told folder.old) (F.told folder.new)) }
+    ensures count { IfOk result (λ reader. IsCounted (F.told folder.new) (F.Reader.failures reader) (Some 0)) }
+    ensures fits { IfErr result (IsOfOpening (asked_output options.now) name.now) }
+    ensures does { IfErr result (λ outcome. (key : List ℕ)
+        → Does (Opening key options.now.max_bytes (asked_label options.now)
+        (output_for (asked_output options.now) name.now) name.now outcome) (F.told folder.old) (F.told folder.new)) }
+{
+    if output_name(name, options.to).is_none() {
+        return Err(FileOutcome::Failed(FileFault::NoSuffix));
+    }
+    match folder.open(name) {
+        Ok(reader) => Ok(reader),
+        Err(_) => Err(FileOutcome::Failed(FileFault::CannotOpen)),
+    }
+}
+
+// Opens a file that was opened for reading: checks its whole container, then creates its output, writes the plaintext and
+// finishes the output. At last the file is closed.
+fn open_opened<'b, 'a, T: Threads + Clock + Sync, F: OpeningFolder>(
+    rt: &T,
+    alloc: Global,
+    key: &'a Key,
+    folder: &mut F,
+    options: &OpenOptions,
+    reader: F::Reader,
+    name: &str,
+    workers: Workers<'b, 'a>,
+) -> FileOutcome
+    requires range { AreInRange options.now }
+    requires workers { AreWorkers workers }
+    requires opens { IsOpenable (asked_output options.now) name.now }
+    requires opened { (before : Option (List Event))
+        × Does (Opens name.now (F.Reader.left reader)) before (F.told folder.old) }
+    requires count { IsCounted (F.told folder.old) (F.Reader.failures reader) (Some 0) }
+    ensures fits { IsOfOpening (asked_output options.now) name.now result }
+    ensures does { (before : Option (List Event))
+        → Does (Opens name.now (F.Reader.left reader)) before (F.told folder.old)
+        → Does (Opening key.now options.now.max_bytes (asked_label options.now)
+        (output_for (asked_output options.now) name.now) name.now result) before (F.told folder.new) }
+{
+    let Some(output) = output_name(name, options.to) else {
+        unreachable!();
+    };
+    let mut reader = reader;
+    let outcome = open_read(
+        rt,
+        alloc,
+        key,
+        folder,
+        &mut reader,
+        name,
+        output,
+        options,
+        workers,
+    );
+    folder.close(name, reader);
+    outcome
+}
+
+// Opens one file, with workers that run.
+fn open_file<'b, 'a, T: Threads + Clock + Sync, F: OpeningFolder>(
+    rt: &T,
+    alloc: Global,
+    key: &'a Key,
+    folder: &mut F,
+    name: &str,
+    workers: Workers<'b, 'a>,
+    options: &OpenOptions,
+) -> FileOutcome
+    requires range { AreInRange options.now }
+    requires workers { AreWorkers workers }
+    ensures fits { IsOfOpening (asked_output options.now) name.now result }
+    ensures does { Does (Opening key.now options.now.max_bytes (asked_label options.now)
+        (output_for (asked_output options.now) name.now) name.now result) (F.told folder.old) (F.told folder.new) }
+{
+    match begin(folder, name, options) {
+        Ok(reader) => {
+            let most = workers_for(folder.length(&reader), workers.count());
+            open_opened(
+                rt,
+                alloc,
+                key,
+                folder,
+                options,
+                reader,
+                name,
+                workers.at_most(most),
+            )
+        }
+        Err(outcome) => outcome,
+    }
+}
+
+// Opens the files from number `next` on, with workers that run. Returns the status.
+fn open_rest<'b, 'a, T: Threads + Clock + Sync, F: OpeningFolder, L: Report>(
+    rt: &T,
+    alloc: Global,
+    key: &'a Key,
+    folder: &mut F,
+    workers: Workers<'b, 'a>,
+    options: &OpenOptions,
+    lines: &mut L,
+    next: usize,
+    status: u8,
+) -> u8
+    requires range { AreInRange options.now }
+    requires workers { AreWorkers workers }
+    requires next { next ≤ length options.now.files.now }
+    ensures { (old : Printed) (told : Option (List Event))
+        → AreOpened key.now options.now next status old
+        (printed (L.taken lines.old) (L.failures lines.old)) told (F.told folder.old)
+        → AreOpened key.now options.now (length options.now.files.now) result old
+        (printed (L.taken lines.new) (L.failures lines.new)) told (F.told folder.new) }
+{
+    let mut status = status;
+    'files: for number in next..options.files.len() {
+        let name = options.files[number];
+        let outcome = open_file(rt, alloc, key, folder, name, workers, options);
+        status = tell(alloc, lines, status, name, outcome);
+    }
+    status
+}
+
+// Opens the file of this number, which this reader has open, and then those after it, with workers that run. Returns the
+// status.
+fn open_from<'b, 'a, T: Threads + Clock + Sync, F: OpeningFolder, L: Report>(
+    rt: &T,
+    alloc: Global,
+    key: &'a Key,
+    folder: &mut F,
+    workers: Workers<'b, 'a>,
+    options: &OpenOptions,
+    lines: &mut L,
+    number: usize,
+    status: u8,
+    name: &str,
+    reader: F::Reader,
+) -> u8
+    requires range { AreInRange options.now }
+    requires workers { AreWorkers workers }
+    requires name { IsFileAt options.now number name.now }
+    requires opens { IsOpenable (asked_output options.now) name.now }
+    requires opened { (before : Option (List Event))
+        × Does (Opens name.now (F.Reader.left reader)) before (F.told folder.old) }
+    requires count { IsCounted (F.told folder.old) (F.Reader.failures reader) (Some 0) }
+    ensures { (old : Printed) (told : Option (List Event)) (before : Option (List Event))
+        → AreOpened key.now options.now number status old
+        (printed (L.taken lines.old) (L.failures lines.old)) told before
+        → Does (Opens name.now (F.Reader.left reader)) before (F.told folder.old)
+        → AreOpened key.now options.now (length options.now.files.now) result old
+        (printed (L.taken lines.new) (L.failures lines.new)) told (F.told folder.new) }
+{
+    let most = workers_for(folder.length(&reader), workers.count());
+    let outcome = open_opened(
+        rt,
+        alloc,
+        key,
+        folder,
+        options,
+        reader,
+        name,
+        workers.at_most(most),
+    );
+    let status = tell(alloc, lines, status, name, outcome);
+    open_rest(
+        rt,
+        alloc,
+        key,
+        folder,
+        workers,
+        options,
+        lines,
+        number + 1,
+        status,
+    )
+}
+
+// The same, and starts the workers of these letter boxes first. Then it frees the reserve.
+fn open_beside<'a, T: Threads + Clock + Sync, F: OpeningFolder, L: Report>(
+    rt: &T,
+    alloc: Global,
+    key: &'a Key,
+    folder: &mut F,
+    boxes: &[LetterBox<'a>],
+    options: &OpenOptions,
+    lines: &mut L,
+    number: usize,
+    status: u8,
+    name: &str,
+    reader: F::Reader,
+    reserve: Vec<u8>,
+) -> u8
+    requires range { AreInRange options.now }
+    requires boxes { length boxes.now < MAX_WORKERS }
+    requires name { IsFileAt options.now number name.now }
+    requires opens { IsOpenable (asked_output options.now) name.now }
+    requires opened { (before : Option (List Event))
+        × Does (Opens name.now (F.Reader.left reader)) before (F.told folder.old) }
+    requires count { IsCounted (F.told folder.old) (F.Reader.failures reader) (Some 0) }
+    ensures { (old : Printed) (told : Option (List Event)) (before : Option (List Event))
+        → AreOpened key.now options.now number status old
+        (printed (L.taken lines.old) (L.failures lines.old)) told before
+        → Does (Opens name.now (F.Reader.left reader)) before (F.told folder.old)
+        → AreOpened key.now options.now (length options.now.files.now) result old
+        (printed (L.taken lines.new) (L.failures lines.new)) told (F.told folder.new) }
+{
+    let mut kept = Some(reader);
+    let mut reserve = Some(reserve);
+    let mut chore = || -> u8
+        requires range { AreInRange options.now }
+        requires boxes { length boxes.now < MAX_WORKERS }
+        requires name { IsFileAt options.now number name.now }
+        requires opens { IsOpenable (asked_output options.now) name.now }
+        requires opened { (reader : F.Reader) × (before : Option (List Event)) × (kept ≡ Some reader)
+            × Does (Opens name.now (F.Reader.left reader)) before (F.told folder.now)
+            × IsCounted (F.told folder.now) (F.Reader.failures reader) (Some 0) }
+        ensures { (reader : F.Reader) (old : Printed) (told : Option (List Event))
+            (before : Option (List Event)) → kept.entry ≡ Some reader
+            → AreOpened key.entry.now options.entry.now number status old
+            (printed (L.taken lines.entry.now) (L.failures lines.entry.now)) told before
+            → Does (Opens name.entry.now (F.Reader.left reader)) before (F.told folder.entry.now)
+            → AreOpened key.entry.now options.entry.now (length options.entry.now.files.now) result old
+            (printed (L.taken lines.exit.now) (L.failures lines.exit.now)) told (F.told folder.exit.now) }
+    {
+        let Some(reader) = kept.take() else {
+            unreachable!();
+        };
+        reserve = None;
+        let workers = Workers::Running(boxes);
+        open_from(
+            rt, alloc, key, folder, workers, options, lines, number, status, name, reader,
+        )
+    };
+    with_workers(rt, alloc, boxes, &Free, &mut chore)
+}
+
+/// Opens each file: reads its container, checks all of it, and then writes the plaintext to the output, which must not
+/// exist yet. A file that can be read again is read twice, in the memory of a verification: the second reading checks
+/// each chunk again before it writes it. If a label is asked for, a container with another one fails after it was
+/// checked, and its output isn't created. Returns the exit status: 0 if every file was opened, 1 if one failed, 2 if a
+/// line couldn't be written. The folder is asked to remove an output that couldn't be written whole, or finished.
+pub fn open_all<
+    T: Threads + Clock + Sync,
+    F: OpeningFolder,
+    L: Report + Drop,
+    E: Report + Drop,
+    J: Report + Drop,
+>(
+    rt: &T,
+    alloc: Global,
+    key: &Key,
+    folder: &mut F,
+    options: &OpenOptions,
+    out: &mut Outs<L, E, J>,
+) -> u8
+    requires files { 0 < length options.now.files.now }
+    requires workers { (0 < options.now.workers) × (options.now.workers ≤ MAX_WORKERS) }
+    requires max_bytes { options.now.max_bytes ≤ MAX_OPENED_BYTES }
+    ensures status { result ≤ 2 }
+    ensures files { AreWorked (IsOfOpening (option_map (λ to. to.now) options.now.to))
+        (λ name. Opening key.now options.now.max_bytes (option_map (λ b. b.now) options.now.label)
+        (output_for (option_map (λ to. to.now) options.now.to) name) name)
+        (map (λ name. name.now) options.now.files.now) result
+        (L.taken out.old.lines) (L.taken out.new.lines) (L.failures out.old.lines) (L.failures out.new.lines)
+        (F.told folder.old) (F.told folder.new) }
+    ensures others { (out.new.faults ≡ out.old.faults) × (out.new.journal ≡ out.old.journal) }
+{
+    let lines = &mut out.lines;
+    let mut status = 0;
+    'files: for number in 0..options.files.len() {
+        let name = options.files[number];
+        let outcome = match begin(folder, name, options) {
+            Ok(reader) => {
+                let bytes = folder.length(&reader);
+                let is_last = number + 1 == options.files.len();
+                let count = workers_from(bytes, options.workers, is_last);
+                if let Some(reserve) = room_to_start(alloc, count) {
+                    let boxes = boxes_beside(alloc, count);
+                    let boxes = boxes.as_slice();
+                    return open_beside(
+                        rt, alloc, key, folder, boxes, options, lines, number, status, name,
+                        reader, reserve,
+                    );
+                }
+                let workers = Workers::ToStart(workers_for(bytes, options.workers));
+                open_opened(rt, alloc, key, folder, options, reader, name, workers)
+            }
+            Err(outcome) => outcome,
+        };
+        status = tell(alloc, lines, status, name, outcome);
+    }
+    status
+}
