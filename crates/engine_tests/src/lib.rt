@@ -22,6 +22,8 @@ mod reads;
 #[cfg(test)]
 mod rounds;
 #[cfg(test)]
+mod running;
+#[cfg(test)]
 mod sealed;
 #[cfg(test)]
 mod shapes;
