@@ -736,14 +736,24 @@ sealed files/b file 1 bytes 1492' ''
     head -c 262144 /dev/zero > files/e
     started --workers 4 files/e
     is workers-of-a-file test "$status $(grep -c 'clone3\?(' calls)" = '0 3'
-    # A file that is checked has at most a worker for each MiB of its container, the caller's thread among them. They last for a reading.
-    for bytes in 2096000 2096800 4193600; do head -c $bytes /dev/zero > files/g$bytes; done
+    # A file that is checked has at most a worker for each MiB of its container, the caller's thread among them. The first that is worth several
+    # starts them, all if others follow it, and they last to the end, whatever becomes of the file. One whose length isn't known starts what it needs.
+    for bytes in 5 2096000 2096800 4193600; do head -c $bytes /dev/zero > "files/g$bytes"; done
     run seal --key "$key" --ledger files/l --device 1 files/g*
-    for words in 'verify 2096000 0' 'verify 2096800 1' 'verify 4193600 3' 'unpipe 2096000 0' 'unpipe 2096800 2' 'unpipe 4193600 6'; do
-        read -r command bytes threads <<< "$words"
-        strace -f -e trace=clone,clone3 -o calls "$sealer" "$command" --key "$key" --workers 4 "files/g$bytes.stm" > out 2> err; status=$?
-        is "workers-of-a-check $words" test "$status $(grep -c 'clone3\?(' calls)" = "0 $threads"
+    started() { strace -f -e trace=clone,clone3 -o calls "$sealer" "$1" --key "$key" --workers 4 "${@:2}" > out 2> err; status=$?; }
+    for words in 'verify 2096000 0' 'verify 2096800 1' 'verify 4193600 3' 'unpipe 2096000 0' 'unpipe 2096800 1' 'unpipe 4193600 3' 'open 4193600 3' \
+        'verify 2096000 2096800 1' 'verify 2096000 2096800 4193600 3' 'verify 4193600 4193600 4193600 3' 'open 4193600 2096800 2096000 3'; do
+        read -ra words <<< "$words"
+        rm -f files/g*[05]
+        of=("${words[@]:1:${#words[@]}-2}")
+        of=("${of[@]/#/files/g}")
+        started "${words[0]}" "${of[@]/%/.stm}"
+        is "workers-of-a-check ${words[*]}" test "$status $(grep -c 'clone3\?(' calls)" = "0 ${words[-1]}"
     done
+    started verify --label other files/g4193600.stm files/g2096800.stm files/g4193600.stm
+    is workers-of-what-is-refused test "$status $(grep -c 'clone3\?(' calls)" = '1 3'
+    started unpipe - < <(cat files/g5.stm)
+    is workers-of-five-bytes test "$status $(grep -c 'clone3\?(' calls)" = '0 0'
     # The memory of one file serves the next: the system isn't asked for more, or given some back, for each file (threads have stacks besides).
     fresh
     for at in 1 2 3 4 5 6 7 8; do head -c 3000000 /dev/zero > "files/f$at"; done

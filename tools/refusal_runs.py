@@ -58,6 +58,7 @@ def text(lines):
 # The long one has seven chunks. The last three are long enough for the second lane to begin before the first has sealed all.
 # `great` is worth four workers to `open` and `verify`: one for each MiB.
 FILES = {"small": text(400), "long": text(70_000), "great": text(620_000), "a": text(8_000), "b": text(9_000)[::-1], "c": text(10_000), "next": b"next\n"}
+FILES["again"] = FILES["great"]
 FILES.update({"x": text(90_000), "y": text(80_000)[::-1], "z": text(85_000)})
 # It needs a spool.
 HUGE = bytes(range(256)) * (17 << 12)
@@ -212,8 +213,10 @@ class Checker:
         else:
             self.outputs(kind, lambda name: None, None)
         for line in self.out:
-            if not line.startswith("failed ") and line != kind.line:
+            if not line.startswith("failed ") and line not in kind.line.split("\n"):
                 self.differs("another answer")
+        if len(set(self.out)) != len(self.out):
+            self.differs("a line twice")
 
     def sealed(self, kind):
         size = len(kind.made)
@@ -372,10 +375,15 @@ def kinds(made):
     great_opened, great_good = (f"{word} great.stm bytes {len(FILES['great'])}" for word in ("opened", "good"))
     for workers in ("1", "2"):
         by, great = ["--key", key, "--workers", workers], {"great.stm": great_stm}
-        # Of two: a round is made by the first thread alone if it can't be shared; and none works beside it without letter boxes or a buffer.
-        heals = -(-len(great_stm) // (1 << 18)) + 2 if workers == "2" else 0
-        yield Kind(f"open by {workers}", ["open", *by, "great.stm"], ["great.stm"], great, 50, line=great_opened, heals=2 * heals)
-        yield Kind(f"verify by {workers}", ["verify", *by, "great.stm"], ["great.stm"], great, 40, line=great_good, heals=heals)
+        # Of two: a round of four chunks is made by the first thread alone if it can't be shared (the last one has a chunk and always is). And
+        # without letter boxes or a buffer none works beside it.
+        rounds = len(FILES["great"]) // (1 << 18) if workers == "2" else 0
+        yield Kind(f"open by {workers}", ["open", *by, "great.stm"], ["great.stm"], great, 50, line=great_opened, heals=2 * rounds + bool(rounds))
+        yield Kind(f"verify by {workers}", ["verify", *by, "great.stm"], ["great.stm"], great, 40, line=great_good, heals=rounds + bool(rounds))
+        # Workers that run serve the next file too.
+        two, both = ["great.stm", "again.stm"], great | {"again.stm": great_stm}
+        for word, line in (("open", great_opened), ("verify", great_good)):
+            yield Kind(f"{word} two by {workers}", [word, *by, *two], two, both, 50, line=f"{line}\n{line.replace('great', 'again')}")
     yield Kind("open a small one", ["open", "--key", key, "small.stm"], ["small.stm"], {"small.stm": numbers}, 40, line="opened small.stm bytes 1492")
     into = ["--key", key, "--into", ".", "long.stm"]
     yield Kind("open into a folder", ["open", *into], ["long.stm"], {"long.stm": long_stm}, 40, line=opened)
