@@ -83,11 +83,6 @@ may_as bound taken front front' key key' header header' a b c may plain =
     (subst (λ (l : List ℕ). Admits bound taken (behind front' l header plain)) b
     (subst (λ (l : List ℕ). Admits bound taken (behind front' key' l plain)) c (may plain)))
 
--- a block after the same front
-pub may_as_front : (bound : Option Bound) (taken : Option (List ℕ)) (front front' bytes : List ℕ) (number : ℕ) → front' ≡ front
-    → Admits bound taken (front_at front number ++ bytes) → Admits bound taken (front_at front' number ++ bytes)
-may_as_front bound taken front front' bytes number is may = rw is may
-
 -- a stream's header
 pub may_header : (bound : Option Bound) (taken : Option (List ℕ)) (key header bytes : List ℕ) → bytes ≡ header
     → ((plain : List ℕ) → Admits bound taken (whole key header plain)) → Admits bound taken bytes

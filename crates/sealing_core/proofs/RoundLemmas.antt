@@ -21,7 +21,7 @@ use Rattle.sealing_core.specs.Intake.{HasRead, seen}
 use Rattle.sealing_core.specs.Order.{behind, empty, AreWritten, Follows, HasBegun, IsCutOff, IsOrdered}
 use Rattle.sealing_core.specs.Hands.{hand, all_numbers}
 use Rattle.sealing_core.specs.Pieces.{block, room, IsChunk, IsPart, IsTask, task_numbers}
-use Rattle.sealing_core.specs.Round.{AreJobs, AreRounds, IsHanded, IsInHand, IsLast, IsPlan, IsRead, IsUnderWay}
+use Rattle.sealing_core.specs.Round.{AreJobs, AreRounds, IsHanded, IsInHand, IsLast, IsRead, IsUnderWay}
 use Rattle.sealing_core.specs.Pipe.{read_failed}
 use Rattle.sealing_core.specs.Rounds.{HasSealedRounds}
 use Rattle.sealing_core.proofs.BlockLemmas.{pos_times}
@@ -274,10 +274,6 @@ way_sealed each key header told left plan early jobs pieces round round' same he
   hand = hand_sealed each key header told left plan.limit was.put round round' same held kept step was.hand;
   rounds = λ going. was.rounds (ap (λ (i : Intake). i.ended) (sym same) ∙ going);
 }
-
--- a plan in other words
-pub plan_as : (each each' : ℕ) (header header' : List ℕ) (plan : Plan) → each ≡ each' → header ≡ header' → IsPlan each header plan → IsPlan each' header' plan
-plan_as each each' header header' plan e h is = subst (λ (n : ℕ). IsPlan n header' plan) e (subst (λ (l : List ℕ). IsPlan each l plan) h is)
 
 -- ---- what was done
 

@@ -182,14 +182,7 @@ pub piped_as : (key header k h : List ℕ) (most : ℕ) (left told left' taken t
     → HasPiped key header most left left' failures failures' taken taken' refusals refusals' result
 piped_as key header k h most left told left' taken taken' failures failures' refusals refusals' result a b c p = rw (a, b, c) p
 
--- the same window in other words
-pub rounds_window : (front key header : List ℕ) (most window window' : ℕ) (left left' taken taken' : Option (List ℕ)) (failures failures' refusals refusals' : Option ℕ)
-    (result : Result ℕ SealFault) → window' ≡ window
-    → HasSealedRounds front key header most window' left left' failures failures' taken taken' refusals refusals' result
-    → HasSealedRounds front key header most window left left' failures failures' taken taken' refusals refusals' result
-rounds_window front key header most window window' left left' taken taken' failures failures' refusals refusals' result e p =
-    subst (λ (n : ℕ). HasSealedRounds front key header most n left left' failures failures' taken taken' refusals refusals' result) e p
-
+-- the same in other words
 pub rounds_as : (key header k h : List ℕ) (most bytes window window' : ℕ) (left told left' taken taken' : Option (List ℕ)) (failures failures' refusals refusals' : Option ℕ)
     (result : Result ℕ SealFault) → key ≡ k → header ≡ h → left ≡ told → most ≡ bytes → window ≡ window'
     → HasSealedRounds h k h bytes window' told left' failures failures' taken taken' refusals refusals' result

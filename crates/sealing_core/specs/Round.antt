@@ -24,10 +24,6 @@ pub record IsPlan (each : ℕ) (header : List ℕ) (plan : Plan) : Type 0 where
   pub fits : IsBlock each header
   pub numbers : plan.limit + block each header ≤ 2 ^ 32 * size_in header + 1
 
--- what is written before the first block, and with it
-abbrev pub front_of : List ℕ → Plan → List ℕ
-front_of header plan = if plan.eager then [] else header
-
 -- jobs, of which the first has this number
 abbrev pub AreJobs : ℕ → List ℕ → Option (List ℕ) → ℕ → List Task → Type 0
 AreJobs each header told number [] = ⊤

@@ -6,31 +6,9 @@ ghost use Rattle.std.specs.Prelude.{◌≡◌, ◌+◌, ◌*◌, ◌^◌, ◌<�
 ghost use Rattle.container_core.specs.Chunks.{body_length, chunk_count, chunks};
 ghost use Rattle.container_core.specs.Container.{size_in};
 ghost use Rattle.container_core.specs.Stream.{sealed_chunk, stream_by};
-ghost use Rattle.sealing_core.specs.Pieces.{block, room, IsBlock};
 
-use crate::line::Naming;
 use claim_core::Gate;
 use container_core::{Header, Key, TAG, seal_chunk};
-
-/// Plaintext bytes of a block.
-pub(crate) fn block_bytes<N: Naming>(header: &Header, each: u32) -> usize
-    requires named { (header.now ≡ N.header) × (each ≡ N.each) }
-    requires each { IsBlock N.each N.header }
-    ensures value { result ≡ block N.each N.header }
-    ensures some { 0 < result }
-    ensures most { result ≤ 2 ^ 20 }
-{
-    each as usize * header.chunk()
-}
-
-/// Bytes of a sealed block.
-pub(crate) fn room_bytes<N: Naming>(header: &Header, each: u32) -> usize
-    requires named { (header.now ≡ N.header) × (each ≡ N.each) }
-    requires each { IsBlock N.each N.header }
-    ensures value { result ≡ room N.each N.header }
-{
-    each as usize * (header.chunk() + TAG)
-}
 
 // Moves the `n` bytes at `from` to `to`, which is not before it.
 fn move_up(text: &mut [u8], from: usize, to: usize, n: usize)

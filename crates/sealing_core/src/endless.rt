@@ -1,10 +1,12 @@
 //! A stream of any length: rounds of one chunk, under a limit on chunks. Each block is one chunk, so it is written as
 //! soon as it is sealed and its turn comes.
-ghost use Rattle.std.specs.Prelude.{◌≡◌, ℕ, ◌<◌, ◌≤◌, List, take, drop};
-ghost use Rattle.container_core.specs.Container.{hint_of};
+ghost use Rattle.std.specs.Prelude.{◌≡◌, ℕ, ◌+◌, ◌*◌, ◌^◌, ◌<◌, ◌≤◌, List, take, drop};
+ghost use Rattle.container_core.specs.Container.{hint_of, size_in};
 ghost use Rattle.output_core.specs.Bounds.{Admits};
 ghost use Rattle.sealing_core.specs.Pipe.{HasPiped, answer_of_stream, whole};
+ghost use Rattle.sealing_core.specs.Round.{IsPlan};
 
+use crate::context::SealingContext;
 use crate::line::Naming;
 use crate::round::{Plan, Round};
 use crate::stream::through;
@@ -13,7 +15,7 @@ use container_core::{Header, Key, SealFault};
 use io_core::{Failed, Source};
 use output_core::{Output, put_all};
 use std::alloc::Global;
-use std::marker::Brand;
+use std::marker::{Brand, PhantomData};
 use std::sync::Wait;
 use std::thread::Threads;
 
@@ -40,27 +42,27 @@ fn pipe_named<
     header: &Header,
     reader: &mut R,
     writer: &mut W,
-    max_chunks: u32,
+    plan: Plan,
     workers: u32,
-    depth: u32,
     gate: &G,
 ) -> Result<u64, SealFault>
-    requires named { (key.now ≡ N.key) × (header.now ≡ N.header) × (1 ≡ N.each) × (R.left reader.old ≡ N.told) }
-    requires most { 0 < max_chunks }
+    requires named { (key.now ≡ N.key) × (header.now ≡ N.header) × (R.left reader.old ≡ N.told) }
+    requires plan { IsPlan N.each N.header plan × (plan.depth ≤ 2 ^ 20) }
     requires workers { (0 < workers) × (workers ≤ MAX_WORKERS) }
-    requires depth { (0 < depth) × (depth ≤ MAX_DEPTH) }
     requires may { (plain : List ℕ)
         → Admits (W.bound writer.old) (W.taken writer.old) (whole key.now header.now plain) }
-    ensures piped { HasPiped key.now header.now max_chunks (R.left reader.old) (R.left reader.new)
+    ensures piped { (most : ℕ) → plan.limit ≡ most * size_in header.now + 1
+        → HasPiped key.now header.now most (R.left reader.old) (R.left reader.new)
         (R.failures reader.old) (R.failures reader.new) (W.taken writer.old) (W.taken writer.new)
         (W.failures writer.old) (W.failures writer.new) result }
 {
-    let plan = Plan {
-        limit: max_chunks as u64 * header.chunk() as u64 + 1,
-        group: 1,
-        depth: depth as usize,
-        each: 1,
-        eager: true,
+    let context: SealingContext<'_, N, G> = SealingContext {
+        key,
+        header,
+        plan,
+        front: &[],
+        gate,
+        of: PhantomData,
     };
     let Ok(mut round) = Round::new(alloc, plan.group) else {
         return Err(SealFault::OutOfMemory);
@@ -68,12 +70,7 @@ fn pipe_named<
     if let Err(Failed) = put_all(writer, header.bytes()) {
         return Err(SealFault::Write);
     }
-    of_stream(
-        through::<N, T, R, W, G>(
-            rt, alloc, key, header, reader, writer, plan, &mut round, workers, gate,
-        )
-        .0,
-    )
+    of_stream(through(rt, alloc, &context, reader, writer, &mut round, workers).0)
 }
 
 /// Seals a stream under a header of this key, with 1 to 16 workers. The caller's thread is worker 0 and does all
@@ -111,7 +108,12 @@ pub fn pipe<T: Threads + Wait + Sync, R: Source, W: Output, G: Gate + Sync>(
         (R.failures reader.old) (R.failures reader.new) (W.taken writer.old) (W.taken writer.new)
         (W.failures writer.old) (W.failures writer.new) result }
 {
-    pipe_named::<Brand, T, R, W, G>(
-        rt, alloc, key, header, reader, writer, max_chunks, workers, depth, gate,
-    )
+    let plan = Plan {
+        limit: max_chunks as u64 * header.chunk() as u64 + 1,
+        group: 1,
+        depth: depth as usize,
+        each: 1,
+        eager: true,
+    };
+    pipe_named::<Brand, T, R, W, G>(rt, alloc, key, header, reader, writer, plan, workers, gate)
 }

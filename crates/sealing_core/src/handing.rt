@@ -10,7 +10,7 @@ ghost use Rattle.sealing_core.specs.declared.line.Hand.{Hand};
 ghost use Rattle.sealing_core.specs.declared.round.Plan.{Plan};
 
 use crate::early::Early;
-use crate::line::{Hand, JobLine, Naming, put_task};
+use crate::line::{Hand, JobLine, Naming, Queues, put_task};
 use crate::piece::Task;
 use crate::round::{Plan, Round};
 use crossbeam_queue::Pass;
@@ -65,9 +65,8 @@ fn put_jobs<N: Naming, T: Wait>(
 /// plan is eager, all may.
 pub(crate) fn hand_over<N: Naming, T: Wait>(
     rt: &T,
-    jobs: &JobLine<N>,
+    queues: &Queues<'_, N>,
     plan: Plan,
-    bells: &[Parker],
     round: &mut Round,
     early: &mut Early,
     into: &mut Pass<Task, Hand>,
@@ -75,8 +74,8 @@ pub(crate) fn hand_over<N: Naming, T: Wait>(
     requires group { 0 < plan.group }
     requires jobs { (put : ℕ) × AreJobs N.each N.header N.told put round.old.held.items }
     requires room { length early.old.places.items + length round.old.held.items ≤ deque_capacity early.old.places }
-    requires into { IsPassOf jobs.now into.old × (0 < (view into.old).parts) }
-    ensures into { IsPassOf jobs.now into.new × ((view into.new).parts ≡ (view into.old).parts) }
+    requires into { IsPassOf queues.now.jobs.now into.old × (0 < (view into.old).parts) }
+    ensures into { IsPassOf queues.now.jobs.now into.new × ((view into.new).parts ≡ (view into.old).parts) }
     ensures same { (early.new.written ≡ early.old.written) × (round.new.intake ≡ round.old.intake)
         × (deque_capacity early.new.places ≡ deque_capacity early.old.places)
         × (deque_capacity round.new.held ≡ deque_capacity round.old.held) }
@@ -90,8 +89,8 @@ pub(crate) fn hand_over<N: Naming, T: Wait>(
 {
     if round.is_full(plan.group) {
         early.ripen(true);
-        put_jobs(rt, jobs, &mut round.held, early, into);
-        ring(bells);
+        put_jobs(rt, queues.jobs, &mut round.held, early, into);
+        ring(queues.bells);
     }
     early.ripen(plan.eager || !round.is_open());
 }

@@ -9,6 +9,7 @@
 
 pub mod auditor;
 mod block;
+mod context;
 mod early;
 mod endless;
 mod feed;

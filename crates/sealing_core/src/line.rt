@@ -17,6 +17,7 @@ use std::collections::LinkedList;
 use std::marker::{Brand, PhantomData};
 use std::sync::Wait;
 use std::thread;
+use std::thread::Parker;
 
 /// What a pass has put and taken, and its parts of the right to know the whole. No value of this type exists at run
 /// time.
@@ -160,6 +161,21 @@ impl Lesson<Piece, Hand> for Total {
 pub(crate) type JobLine<N> = RuledArrayQueue<Task, Hand, Jobs<N>, Global>;
 
 pub(crate) type PieceLine<N> = RuledArrayQueue<Piece, Hand, Pieces<N>, Global>;
+
+/// The two queues of a call, and a bell for each worker, which wakes it. Worker 0 is the caller's thread.
+#[derive(Drop)]
+pub(crate) struct Queues<'a, N: Naming> {
+    pub(crate) jobs: &'a JobLine<N>,
+    pub(crate) pieces: &'a PieceLine<N>,
+    pub(crate) bells: &'a [Parker],
+}
+
+/// The passes of the caller's thread: into the queue of jobs, and from the queue of pieces.
+#[derive(Drop)]
+pub(crate) struct Hands {
+    pub(crate) into: Pass<Task, Hand>,
+    pub(crate) from: Pass<Piece, Hand>,
+}
 
 /// Puts a task, waiting until there is room.
 pub(crate) fn put_task<N: Naming, R: Wait>(

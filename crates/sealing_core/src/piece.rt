@@ -1,13 +1,13 @@
 //! A job and a piece. Both own the buffer of their block, which has room for the tags of its chunks. The input's last
 //! block is not one of them: the caller's thread seals it.
 ghost use Rattle.std.specs.Prelude.{◌≡◌, ◌+◌, ◌*◌, ◌≤◌, false, length, take};
-ghost use Rattle.sealing_core.specs.Pieces.{block, room, IsBlock, IsChunk, IsPiece};
+ghost use Rattle.sealing_core.specs.Pieces.{block, room, IsChunk, IsPiece};
 ghost use Rattle.container_core.specs.Chunks.{max_chunks};
 
-use crate::block::{block_bytes, seal_block};
+use crate::block::seal_block;
+use crate::context::SealingContext;
 use crate::line::Naming;
 use claim_core::Gate;
-use container_core::{Header, Key};
 
 /// What goes to a worker.
 #[derive(Drop)]
@@ -27,16 +27,11 @@ pub(crate) struct Piece {
 
 /// Seals a full block in its buffer, as worker `me`.
 pub(crate) fn make_piece<N: Naming, G: Gate>(
-    key: &Key,
-    header: &Header,
-    gate: &G,
+    context: &SealingContext<'_, N, G>,
     me: u32,
-    each: u32,
     number: u32,
     buffer: Vec<u8>,
 ) -> Piece
-    requires named { (key.now ≡ N.key) × (header.now ≡ N.header) × (each ≡ N.each) }
-    requires each { IsBlock N.each N.header }
     requires buffer { length buffer.items ≡ room N.each N.header }
     requires text { IsChunk (block N.each N.header) N.told number false (take (block N.each N.header) buffer.items) }
     requires numbers { N.each * (number + 1) ≤ max_chunks }
@@ -44,12 +39,12 @@ pub(crate) fn make_piece<N: Naming, G: Gate>(
     ensures piece { IsPiece N.each N.key N.header N.told result }
 {
     let mut buffer = buffer;
-    let size = block_bytes::<N>(header, each);
-    let first = each * number;
+    let size = context.block_bytes();
+    let first = context.plan.each * number;
     seal_block(
-        key,
-        header,
-        gate,
+        context.key,
+        context.header,
+        context.gate,
         me,
         first,
         false,

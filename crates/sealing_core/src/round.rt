@@ -6,24 +6,25 @@ ghost use Rattle.container_core.specs.Container.{size_in};
 ghost use Rattle.container_core.specs.declared.fault.SealFault.TheVariants as sealing_fault;
 ghost use Rattle.io_core.specs.Reads.{ConsumesUpTo};
 ghost use Rattle.io_core.specs.Streams.{counted};
-ghost use Rattle.sealing_core.specs.Pieces.{block, room, IsBlock};
-ghost use Rattle.sealing_core.specs.Round.{front_of, IsInHand, IsLast, IsPlan, MayEnd};
+ghost use Rattle.sealing_core.specs.Pieces.{block, room};
+ghost use Rattle.sealing_core.specs.Round.{IsInHand, IsLast, IsPlan, MayEnd};
 ghost use Rattle.sealing_core.specs.Pipe.{read_failed};
 
-use crate::block::{block_bytes, room_bytes, seal_block};
+use crate::block::seal_block;
+use crate::context::SealingContext;
 use crate::intake::Intake;
 use crate::line::Naming;
 use crate::piece::Task;
 use claim_core::Gate;
-use container_core::{Header, Key, SealFault};
+use container_core::SealFault;
 use io_core::{Failed, Source};
 use std::alloc::{AllocError, Global};
 use std::collections::VecDeque;
 
 /// How an input is sealed. At most `limit` bytes of it are read; the last of these is one too many. It is cut into
 /// blocks of `each` chunks, and at most `depth` blocks are read and not yet written. Full blocks are put in groups of
-/// `group`. If `eager`, what was put may be written at once, after a header that was written before. Otherwise it may
-/// be written once the next group is put, and the header is written with it.
+/// `group`. If `eager`, what was put may be written at once. Otherwise it may
+/// be written once the next group is put.
 #[derive(Clone, Copy)]
 pub(crate) struct Plan {
     pub(crate) limit: u64,
@@ -31,15 +32,6 @@ pub(crate) struct Plan {
     pub(crate) depth: usize,
     pub(crate) each: u32,
     pub(crate) eager: bool,
-}
-
-impl Plan {
-    // What is written before the first piece.
-    pub(crate) fn front<'a>(&self, header: &'a Header) -> &'a [u8]
-        ensures { result.now ≡ front_of header.now self.now }
-    {
-        if self.eager { &[] } else { header.bytes() }
-    }
 }
 
 #[derive(Drop)]
@@ -135,13 +127,8 @@ impl Round {
     /// Seals the last block on the caller's thread, once. Returns whether there was something to seal.
     pub(crate) fn seal_last<N: Naming, G: Gate>(
         &mut self,
-        key: &Key,
-        header: &Header,
-        each: u32,
-        gate: &G,
+        context: &SealingContext<'_, N, G>,
     ) -> bool
-        requires named { (key.now ≡ N.key) × (header.now ≡ N.header) × (each ≡ N.each) }
-        requires each { IsBlock N.each N.header }
         requires last { self.old.intake.ended ≡ true → MayEnd N.each N.header self.old }
         ensures same { (self.new.intake ≡ self.old.intake) × (self.new.held ≡ self.old.held) }
         ensures sealed { self.new.intake.ended ≡ true → self.new.is_sealed ≡ true }
@@ -158,11 +145,11 @@ impl Round {
             return false;
         }
         let number = self.intake.blocks - 1;
-        let first = each * number;
+        let first = context.plan.each * number;
         self.filled = seal_block(
-            key,
-            header,
-            gate,
+            context.key,
+            context.header,
+            context.gate,
             0,
             first,
             true,
@@ -174,28 +161,28 @@ impl Round {
     }
 
     // Reads the first round.
-    pub(crate) fn read_first<N: Naming, R: Source>(
+    pub(crate) fn read_first<N: Naming, R: Source, G: Gate>(
         &mut self,
         alloc: Global,
         reader: &mut R,
-        header: &Header,
-        plan: Plan,
+        context: &SealingContext<'_, N, G>,
     ) -> Result<(), SealFault>
-        requires named { header.now ≡ N.header }
-        requires plan { IsPlan N.each N.header plan }
+        requires plan { IsPlan N.each N.header context.now.plan }
         requires going { (self.old.intake.ended ≡ false) × (self.old.intake.over ≡ false) × (self.old.held.items ≡ []) }
-        requires room { plan.group ≤ deque_capacity self.old.held }
-        requires hand { IsInHand N.each N.key N.header N.told (R.left reader.old) plan.limit 0 self.old }
-        ensures capacity { OnOk result (plan.group ≤ deque_capacity self.new.held) }
-        ensures few { OnOk result (length self.new.held.items ≤ plan.group) }
-        ensures over { OnOk result (self.new.intake.over ≡ true → length self.new.held.items < plan.group) }
-        ensures hand { OnOk result (IsInHand N.each N.key N.header N.told (R.left reader.new) plan.limit 0 self.new) }
+        requires room { context.now.plan.group ≤ deque_capacity self.old.held }
+        requires hand { IsInHand N.each N.key N.header N.told (R.left reader.old) context.now.plan.limit 0 self.old }
+        ensures capacity { OnOk result (context.now.plan.group ≤ deque_capacity self.new.held) }
+        ensures few { OnOk result (length self.new.held.items ≤ context.now.plan.group) }
+        ensures over { OnOk result (self.new.intake.over ≡ true → length self.new.held.items < context.now.plan.group) }
+        ensures hand { OnOk result
+            (IsInHand N.each N.key N.header N.told (R.left reader.new) context.now.plan.limit 0 self.new) }
         ensures fault { IfErr result (λ f. (f ≡ sealing_fault.OutOfMemory) ⊎ (f ≡ sealing_fault.Read)) }
-        ensures lost { OnErr result (ConsumesUpTo N.told (R.left reader.new) plan.limit) }
+        ensures lost { OnErr result (ConsumesUpTo N.told (R.left reader.new) context.now.plan.limit) }
         ensures count { R.failures reader.new ≡ counted (read_failed result) (R.failures reader.old) }
     {
-        let size = block_bytes::<N>(header, plan.each);
-        let room = room_bytes::<N>(header, plan.each);
+        let size = context.block_bytes();
+        let room = context.room_bytes();
+        let plan = context.plan;
         'first: while self.is_open() && self.held.len() < plan.group {
             let Ok(buffer) = vec![in alloc; 0; room] else {
                 return Err(SealFault::OutOfMemory);

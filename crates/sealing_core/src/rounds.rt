@@ -4,14 +4,15 @@
 //! Small chunks go through the queues in blocks of several, so one read, one job and one write carry up to 64 KiB.
 ghost use Rattle.std.specs.Prelude.{◌≡◌, ℕ, ◌+◌, ◌-◌, ◌*◌, ◌/◌, ◌^◌, ◌<◌, ◌≤◌, List, [], ◌∷◌, Option, OnOk, OnErr};
 ghost use Rattle.std.specs.Prelude.{is_err, true, take, drop};
-ghost use Rattle.container_core.specs.Container.{hint_of, size_in};
+ghost use Rattle.container_core.specs.Container.{hint_of};
 ghost use Rattle.io_core.specs.Streams.{counted};
 ghost use Rattle.output_core.specs.Bounds.{Admits};
 ghost use Rattle.sealing_core.specs.Order.{behind, AreWritten, IsCutOff, MayGoOn};
-ghost use Rattle.sealing_core.specs.Pieces.{block, IsBlock, IsTask, task_numbers};
-ghost use Rattle.sealing_core.specs.Round.{IsInHand};
+ghost use Rattle.sealing_core.specs.Pieces.{IsTask, task_numbers};
+ghost use Rattle.sealing_core.specs.Round.{IsInHand, IsPlan};
 ghost use Rattle.sealing_core.specs.Rounds.{HasSealedRounds};
 
+use crate::context::SealingContext;
 use crate::feed::end;
 use crate::handing::first_of;
 use crate::line::Naming;
@@ -24,7 +25,7 @@ use container_core::{Header, Key, MAX_PLAIN, SealFault};
 use io_core::{Failed, Source};
 use output_core::Output;
 use std::alloc::Global;
-use std::marker::Brand;
+use std::marker::{Brand, PhantomData};
 use std::sync::Wait;
 use std::thread::Threads;
 
@@ -33,64 +34,55 @@ const BLOCK: usize = 1 << 16;
 
 // Seals and writes a job of the only round.
 fn write_job<N: Naming, W: Output, G: Gate>(
-    key: &Key,
-    header: &Header,
-    each: u32,
+    context: &SealingContext<'_, N, G>,
     writer: &mut W,
     task: Task,
-    gate: &G,
 ) -> Result<(), Failed>
-    requires named { (key.now ≡ N.key) × (header.now ≡ N.header) × (each ≡ N.each) }
-    requires each { IsBlock N.each N.header }
     requires task { IsTask N.each N.header N.told task }
     requires may { (number : ℕ) → task_numbers task ≡ number ∷ []
-        → MayGoOn N.each N.header N.key N.header N.told (W.bound writer.old) (W.taken writer.old) number }
+        → MayGoOn N.each context.now.front.now N.key N.header N.told (W.bound writer.old) (W.taken writer.old) number }
     ensures written { (taken : Option (List ℕ)) (number : ℕ) → task_numbers task ≡ number ∷ []
-        → AreWritten N.each N.header N.key N.header N.told taken (W.taken writer.old) number
-        → OnOk result (AreWritten N.each N.header N.key N.header N.told taken (W.taken writer.new) (number + 1)) }
+        → AreWritten N.each context.now.front.now N.key N.header N.told taken (W.taken writer.old) number
+        → OnOk result
+        (AreWritten N.each context.now.front.now N.key N.header N.told taken (W.taken writer.new) (number + 1)) }
     ensures begun { (taken : Option (List ℕ)) (number : ℕ) → task_numbers task ≡ number ∷ []
-        → AreWritten N.each N.header N.key N.header N.told taken (W.taken writer.old) number
-        → OnErr result (IsCutOff N.header N.key N.header N.told taken (W.taken writer.new)) }
+        → AreWritten N.each context.now.front.now N.key N.header N.told taken (W.taken writer.old) number
+        → OnErr result (IsCutOff context.now.front.now N.key N.header N.told taken (W.taken writer.new)) }
     ensures same { W.bound writer.new ≡ W.bound writer.old }
     ensures count { W.failures writer.new ≡ counted (is_err result) (W.failures writer.old) }
 {
     match task {
         Task::Stop => Ok(()),
         Task::Job { number, buffer } => {
-            let piece = make_piece::<N, G>(key, header, gate, 0, each, number, buffer);
-            write_part(writer, header.bytes(), number, piece.buffer.as_slice())
+            let piece = make_piece(context, 0, number, buffer);
+            write_part(writer, context.front, number, piece.buffer.as_slice())
         }
     }
 }
 
 // Seals and writes the only round on this thread alone.
 fn alone<N: Naming, W: Output, G: Gate>(
-    key: &Key,
-    header: &Header,
-    each: u32,
+    context: &SealingContext<'_, N, G>,
     writer: &mut W,
     round: &mut Round,
-    gate: &G,
 ) -> Result<u64, SealFault>
-    requires named { (key.now ≡ N.key) × (header.now ≡ N.header) × (each ≡ N.each) }
-    requires each { IsBlock N.each N.header }
     requires ended { round.old.intake.ended ≡ true }
     requires hand { (left : Option (List ℕ)) × (limit : ℕ)
         × IsInHand N.each N.key N.header N.told left limit 0 round.old }
     requires may { (plain : List ℕ)
-        → Admits (W.bound writer.old) (W.taken writer.old) (behind N.header N.key N.header plain) }
+        → Admits (W.bound writer.old) (W.taken writer.old) (behind context.now.front.now N.key N.header plain) }
     ensures sealed { (left : Option (List ℕ)) (failures : Option ℕ) (limit group : ℕ) → 0 < limit
         → IsInHand N.each N.key N.header N.told left limit 0 round.old
-        → HasSealedRounds N.header N.key N.header (limit - 1) (group * N.each) N.told left failures failures
+        → HasSealedRounds context.now.front.now N.key N.header (limit - 1) (group * N.each) N.told left failures failures
         (W.taken writer.old) (W.taken writer.new) (W.failures writer.old) (W.failures writer.new) result }
 {
     'jobs: while !round.held.is_empty() {
-        match write_job::<N, W, G>(key, header, each, writer, first_of(&mut round.held), gate) {
+        match write_job(context, writer, first_of(&mut round.held)) {
             Ok(()) => {}
             Err(Failed) => return Err(SealFault::Write),
         }
     }
-    end::<N, W, G>(key, header, each, writer, header.bytes(), round, gate)
+    end(context, writer, round)
 }
 
 // Whether blocks of `each` chunks fill a window, with at least one for each worker.
@@ -141,37 +133,32 @@ fn rounds_named<
     header: &Header,
     reader: &mut R,
     writer: &mut W,
-    max_bytes: u64,
+    plan: Plan,
     workers: u32,
-    group: u32,
-    each: u32,
     gate: &G,
 ) -> Result<u64, SealFault>
-    requires named { (key.now ≡ N.key) × (header.now ≡ N.header) × (each ≡ N.each) × (R.left reader.old ≡ N.told) }
-    requires each { IsBlock each header.now }
-    requires max_bytes { max_bytes ≤ MAX_PLAIN }
-    requires numbers { max_bytes + block each header.now ≤ 2 ^ 32 * size_in header.now }
+    requires named { (key.now ≡ N.key) × (header.now ≡ N.header) × (R.left reader.old ≡ N.told) }
+    requires plan { IsPlan N.each N.header plan × (plan.depth ≤ 2 ^ 20) }
     requires workers { (0 < workers) × (workers ≤ MAX_WORKERS) }
-    requires group { (0 < group) × (group ≤ MAX_WINDOW) }
     requires may { (plain : List ℕ)
         → Admits (W.bound writer.old) (W.taken writer.old) (behind header.now key.now header.now plain) }
-    ensures sealed { HasSealedRounds header.now key.now header.now max_bytes (group * each) (R.left reader.old)
-        (R.left reader.new)
+    ensures sealed { HasSealedRounds header.now key.now header.now (plan.limit - 1) (plan.group * N.each)
+        (R.left reader.old) (R.left reader.new)
         (R.failures reader.old) (R.failures reader.new) (W.taken writer.old) (W.taken writer.new)
         (W.failures writer.old) (W.failures writer.new) result }
 {
-    let group = group as usize;
-    let plan = Plan {
-        limit: max_bytes + 1,
-        group,
-        depth: 2 * group,
-        each,
-        eager: false,
+    let context: SealingContext<'_, N, G> = SealingContext {
+        key,
+        header,
+        plan,
+        front: header.bytes(),
+        gate,
+        of: PhantomData,
     };
-    let Ok(mut round) = Round::new(alloc, group) else {
+    let Ok(mut round) = Round::new(alloc, plan.group) else {
         return Err(SealFault::OutOfMemory);
     };
-    if let Err(fault) = round.read_first::<N, R>(alloc, reader, header, plan) {
+    if let Err(fault) = round.read_first(alloc, reader, &context) {
         return Err(fault);
     }
     if round.intake.over {
@@ -183,12 +170,9 @@ fn rounds_named<
         workers
     };
     if round.intake.ended && workers == 1 {
-        return alone::<N, W, G>(key, header, each, writer, &mut round, gate);
+        return alone(&context, writer, &mut round);
     }
-    through::<N, T, R, W, G>(
-        rt, alloc, key, header, reader, writer, plan, &mut round, workers, gate,
-    )
-    .0
+    through(rt, alloc, &context, reader, writer, &mut round, workers).0
 }
 
 /// Seals an input of at most `max_bytes` bytes (2^40 at most) under a header of this key, in rounds of `window` chunks
@@ -231,8 +215,13 @@ pub fn pipe_rounds<T: Threads + Wait + Sync, R: Source, W: Output, G: Gate + Syn
         (W.failures writer.old) (W.failures writer.new) result }
 {
     let each = each_of(header.chunk(), workers, window);
-    let group = window / each;
-    rounds_named::<Brand, T, R, W, G>(
-        rt, alloc, key, header, reader, writer, max_bytes, workers, group, each, gate,
-    )
+    let group = (window / each) as usize;
+    let plan = Plan {
+        limit: max_bytes + 1,
+        group,
+        depth: 2 * group,
+        each,
+        eager: false,
+    };
+    rounds_named::<Brand, T, R, W, G>(rt, alloc, key, header, reader, writer, plan, workers, gate)
 }

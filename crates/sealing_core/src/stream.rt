@@ -5,18 +5,20 @@ ghost use Rattle.crossbeam_queue.specs.Passes.{view, IsPassOf};
 ghost use Rattle.output_core.specs.Bounds.{Admits};
 ghost use Rattle.sealing_core.specs.Hands.{newcomer, HasRelayed, HasAll, EachOnce};
 ghost use Rattle.sealing_core.specs.Order.{behind};
-ghost use Rattle.sealing_core.specs.Pieces.{IsBlock};
-ghost use Rattle.sealing_core.specs.Round.{front_of, IsPlan, IsRead};
+ghost use Rattle.sealing_core.specs.Round.{IsPlan, IsRead};
 ghost use Rattle.sealing_core.specs.Rounds.{HasSealedRounds};
 
+use crate::context::SealingContext;
 use crate::feed::feed;
 use crate::handing::ring;
-use crate::line::{Cut, Hand, JobLine, Naming, PieceLine, Total, put_task, take_task};
+use crate::line::{
+    Cut, Hand, Hands, JobLine, Naming, PieceLine, Queues, Total, put_task, take_task,
+};
 use crate::piece::{Piece, Task};
-use crate::round::{Plan, Round};
+use crate::round::Round;
 use crate::worker::worker;
 use claim_core::{Gate, MAX_WORKERS};
-use container_core::{Header, Key, SealFault};
+use container_core::SealFault;
 use crossbeam_queue::Pass;
 use io_core::Source;
 use output_core::Output;
@@ -55,118 +57,95 @@ fn stop_all<N: Naming, T: Wait>(
 fn meet<N: Naming>(
     jobs: &JobLine<N>,
     pieces: &PieceLine<N>,
-    into: &mut Pass<Task, Hand>,
-    from: &mut Pass<Piece, Hand>,
+    hands: &mut Hands,
     theirs: Pass<Task, Hand>,
     back: Pass<Piece, Hand>,
 )
-    requires ours { IsPassOf jobs.now into.old × (0 < (view into.old).parts) × IsPassOf pieces.now from.old
-        × (0 < (view from.old).parts) }
+    requires ours { IsPassOf jobs.now hands.old.into × (0 < (view hands.old.into).parts) × IsPassOf pieces.now hands.old.from
+        × (0 < (view hands.old.from).parts) }
     requires theirs { IsPassOf jobs.now theirs × IsPassOf pieces.now back × HasRelayed 1 (view theirs) (view back) }
-    ensures passes { IsPassOf jobs.now into.new × IsPassOf pieces.now from.new }
-    ensures parts { ((view into.new).parts ≡ (view into.old).parts + 1)
-        × ((view from.new).parts ≡ (view from.old).parts + 1) }
-    ensures all { (n : ℕ) → HasAll n (view into.old) (view from.old) → HasAll n (view into.new) (view from.new) }
+    ensures passes { IsPassOf jobs.now hands.new.into × IsPassOf pieces.now hands.new.from }
+    ensures parts { ((view hands.new.into).parts ≡ (view hands.old.into).parts + 1)
+        × ((view hands.new.from).parts ≡ (view hands.old.from).parts + 1) }
+    ensures all { (n : ℕ) → HasAll n (view hands.old.into) (view hands.old.from) → HasAll n (view hands.new.into) (view hands.new.from) }
 {
-    jobs.absorb::<Cut>(into, theirs);
-    pieces.absorb::<Cut>(from, back);
+    jobs.absorb::<Cut>(&mut hands.into, theirs);
+    pieces.absorb::<Cut>(&mut hands.from, back);
 }
 
 // Runs `upto` workers, of which the caller's thread is the first. The innermost call feeds them, and then puts a stop
-// for each other one. `bells` has one bell for each worker.
+// for each other one. There is a bell for each worker.
 #[cycle(crew)]
 fn crew<N: Naming + Send + Sync, T: Threads + Wait + Sync, R: Source, W: Output, G: Gate + Sync>(
     rt: &T,
     alloc: Global,
-    jobs: &JobLine<N>,
-    pieces: &PieceLine<N>,
-    key: &Key,
-    header: &Header,
+    queues: &Queues<'_, N>,
+    context: &SealingContext<'_, N, G>,
     reader: &mut R,
     writer: &mut W,
-    plan: Plan,
     round: &mut Round,
-    gate: &G,
-    bells: &[Parker],
     upto: u32,
-    into: &mut Pass<Task, Hand>,
-    from: &mut Pass<Piece, Hand>,
+    hands: &mut Hands,
 ) -> Result<u64, SealFault>
-    requires named { (key.now ≡ N.key) × (header.now ≡ N.header) }
-    requires plan { IsPlan N.each N.header plan }
-    requires read { IsRead N.each N.key N.header N.told (R.left reader.old) plan round.old }
-    requires upto { (0 < upto) × (upto ≤ length bells.now) }
-    requires into { IsPassOf jobs.now into.old × (upto ≤ (view into.old).parts) × ((view into.old).put ≡ []) }
-    requires from { IsPassOf pieces.now from.old × (upto ≤ (view from.old).parts) × ((view from.old).put ≡ []) }
+    requires plan { IsPlan N.each N.header context.now.plan }
+    requires read { IsRead N.each N.key N.header N.told (R.left reader.old) context.now.plan round.old }
+    requires upto { (0 < upto) × (upto ≤ length queues.now.bells.now) }
+    requires into { IsPassOf queues.now.jobs.now hands.old.into × (upto ≤ (view hands.old.into).parts)
+        × ((view hands.old.into).put ≡ []) }
+    requires from { IsPassOf queues.now.pieces.now hands.old.from × (upto ≤ (view hands.old.from).parts)
+        × ((view hands.old.from).put ≡ []) }
     requires may { (plain : List ℕ)
-        → Admits (W.bound writer.old) (W.taken writer.old) (behind (front_of N.header plan) N.key N.header plain) }
-    ensures into { IsPassOf jobs.now into.new × ((view into.new).parts ≡ (view into.old).parts) }
-    ensures from { IsPassOf pieces.now from.new × ((view from.new).parts ≡ (view from.old).parts) }
-    ensures sealed { HasSealedRounds (front_of N.header plan) N.key N.header (plan.limit - 1) (plan.group * N.each)
-        N.told (R.left reader.new) (R.failures reader.old) (R.failures reader.new)
+        → Admits (W.bound writer.old) (W.taken writer.old) (behind context.now.front.now N.key N.header plain) }
+    ensures into { IsPassOf queues.now.jobs.now hands.new.into × ((view hands.new.into).parts ≡ (view hands.old.into).parts) }
+    ensures from { IsPassOf queues.now.pieces.now hands.new.from × ((view hands.new.from).parts ≡ (view hands.old.from).parts) }
+    ensures sealed { HasSealedRounds context.now.front.now N.key N.header (context.now.plan.limit - 1)
+        (context.now.plan.group * N.each) N.told (R.left reader.new) (R.failures reader.old) (R.failures reader.new)
         (W.taken writer.old) (W.taken writer.new) (W.failures writer.old) (W.failures writer.new) result }
-    ensures all { OnOk result ((n : ℕ) × HasAll n (view into.new) (view from.new)) }
+    ensures all { OnOk result ((n : ℕ) × HasAll n (view hands.new.into) (view hands.new.from)) }
 {
     if upto == 1 {
-        let answer = feed(
-            rt, alloc, jobs, pieces, key, header, reader, writer, plan, round, gate, bells, into,
-            from,
-        );
+        let answer = feed(rt, alloc, queues, context, reader, writer, round, hands);
         if answer.is_err() {
-            drop_jobs(jobs, into, plan.depth);
+            drop_jobs(queues.jobs, &mut hands.into, context.plan.depth);
         }
-        stop_all(rt, jobs, into, bells.len() - 1);
-        ring(bells);
+        stop_all(rt, queues.jobs, &mut hands.into, queues.bells.len() - 1);
+        ring(queues.bells);
         return answer;
     }
     let last = upto - 1;
-    let each = plan.each;
-    let mut theirs = jobs.another::<Cut>(into);
-    let mut back = pieces.another::<Cut>(from);
+    let mut theirs = queues.jobs.another::<Cut>(&mut hands.into);
+    let mut back = queues.pieces.another::<Cut>(&mut hands.from);
     let mut other = ||
-        requires { IsSync T.row × (0 < last) × (last < length bells.now) × (key.now ≡ N.key) × (header.now ≡ N.header)
-            × (each ≡ N.each) × IsBlock N.each N.header × IsPassOf jobs.now theirs × (view theirs ≡ newcomer)
-            × IsPassOf pieces.now back × (view back ≡ newcomer) }
-        ensures { IsPassOf jobs.entry.now theirs.exit × IsPassOf pieces.entry.now back.exit
+        requires { IsSync T.row × (0 < last) × (last < length queues.now.bells.now)
+            × IsPassOf queues.now.jobs.now theirs × (view theirs ≡ newcomer)
+            × IsPassOf queues.now.pieces.now back × (view back ≡ newcomer) }
+        ensures { IsPassOf queues.entry.now.jobs.now theirs.exit × IsPassOf queues.entry.now.pieces.now back.exit
             × HasRelayed 1 (view theirs.exit) (view back.exit) }
-    {
-        worker(
-            rt,
-            jobs,
-            pieces,
-            key,
-            header,
-            gate,
-            bells,
-            last,
-            each,
-            &mut theirs,
-            &mut back,
-        )
-    };
+    { worker(rt, queues, context, last, &mut theirs, &mut back) };
     let mut here = || -> Result<u64, SealFault>
-        requires { IsSync T.row × (key.now ≡ N.key) × (header.now ≡ N.header) × IsPlan N.each N.header plan
-            × IsRead N.each N.key N.header N.told (R.left reader.now) plan round.now × (0 < last)
-            × (last ≤ length bells.now)
-            × IsPassOf jobs.now into.now × (last ≤ (view into.now).parts) × ((view into.now).put ≡ [])
-            × IsPassOf pieces.now from.now × (last ≤ (view from.now).parts) × ((view from.now).put ≡ [])
+        requires { IsSync T.row × IsPlan N.each N.header context.now.plan
+            × IsRead N.each N.key N.header N.told (R.left reader.now) context.now.plan round.now × (0 < last)
+            × (last ≤ length queues.now.bells.now)
+            × IsPassOf queues.now.jobs.now hands.now.into × (last ≤ (view hands.now.into).parts) × ((view hands.now.into).put ≡ [])
+            × IsPassOf queues.now.pieces.now hands.now.from × (last ≤ (view hands.now.from).parts) × ((view hands.now.from).put ≡ [])
             × ((plain : List ℕ)
-            → Admits (W.bound writer.now) (W.taken writer.now) (behind (front_of N.header plan) N.key N.header plain)) }
-        ensures { OnOk result ((n : ℕ) × HasAll n (view into.exit.now) (view from.exit.now))
-            × (IsPassOf jobs.entry.now into.exit.now × ((view into.exit.now).parts ≡ (view into.entry.now).parts))
-            × (IsPassOf pieces.entry.now from.exit.now × ((view from.exit.now).parts ≡ (view from.entry.now).parts))
-            × HasSealedRounds (front_of N.header plan) N.key N.header (plan.limit - 1)
-            (plan.group * N.each) N.told (R.left reader.exit.now)
+            → Admits (W.bound writer.now) (W.taken writer.now) (behind context.now.front.now N.key N.header plain)) }
+        ensures { OnOk result ((n : ℕ) × HasAll n (view hands.exit.now.into) (view hands.exit.now.from))
+            × (IsPassOf queues.entry.now.jobs.now hands.exit.now.into
+            × ((view hands.exit.now.into).parts ≡ (view hands.entry.now.into).parts))
+            × (IsPassOf queues.entry.now.pieces.now hands.exit.now.from
+            × ((view hands.exit.now.from).parts ≡ (view hands.entry.now.from).parts))
+            × HasSealedRounds context.entry.now.front.now N.key N.header (context.entry.now.plan.limit - 1)
+            (context.entry.now.plan.group * N.each) N.told (R.left reader.exit.now)
             (R.failures reader.entry.now) (R.failures reader.exit.now) (W.taken writer.entry.now)
             (W.taken writer.exit.now) (W.failures writer.entry.now) (W.failures writer.exit.now) result }
     {
         crew(
-            rt, alloc, jobs, pieces, key, header, reader, writer, plan, round, gate, bells, last,
-            into, from,
+            rt, alloc, queues, context, reader, writer, round, last, hands,
         )
     };
     let ((), answer) = join_mut(rt, &mut other, &mut here);
-    meet(jobs, pieces, into, from, theirs, back);
+    meet(queues.jobs, queues.pieces, hands, theirs, back);
     answer
 }
 
@@ -192,56 +171,42 @@ pub(crate) fn through<
 >(
     rt: &T,
     alloc: Global,
-    key: &Key,
-    header: &Header,
+    context: &SealingContext<'_, N, G>,
     reader: &mut R,
     writer: &mut W,
-    plan: Plan,
     round: &mut Round,
     workers: u32,
-    gate: &G,
-) -> (
-    Result<u64, SealFault>,
-    Option<(Pass<Task, Hand>, Pass<Piece, Hand>)>,
-)
-    requires named { (key.now ≡ N.key) × (header.now ≡ N.header) }
-    requires plan { IsPlan N.each N.header plan × (plan.depth ≤ 2 ^ 20) }
-    requires read { IsRead N.each N.key N.header N.told (R.left reader.old) plan round.old }
+) -> (Result<u64, SealFault>, Option<Hands>)
+    requires plan { IsPlan N.each N.header context.now.plan × (context.now.plan.depth ≤ 2 ^ 20) }
+    requires read { IsRead N.each N.key N.header N.told (R.left reader.old) context.now.plan round.old }
     requires workers { (0 < workers) × (workers ≤ MAX_WORKERS) }
     requires may { (plain : List ℕ)
-        → Admits (W.bound writer.old) (W.taken writer.old) (behind (front_of N.header plan) N.key N.header plain) }
-    ensures sealed { HasSealedRounds (front_of N.header plan) N.key N.header (plan.limit - 1) (plan.group * N.each)
-        N.told (R.left reader.new) (R.failures reader.old) (R.failures reader.new)
+        → Admits (W.bound writer.old) (W.taken writer.old) (behind context.now.front.now N.key N.header plain) }
+    ensures sealed { HasSealedRounds context.now.front.now N.key N.header (context.now.plan.limit - 1)
+        (context.now.plan.group * N.each) N.told (R.left reader.new) (R.failures reader.old) (R.failures reader.new)
         (W.taken writer.old) (W.taken writer.new) (W.failures writer.old) (W.failures writer.new) result.0 }
-    ensures once { OnOk result.0 (IfSome result.1 (λ hands. (n : ℕ) × EachOnce n (view hands.0) (view hands.1))) }
+    ensures once { OnOk result.0 (IfSome result.1 (λ hands. (n : ℕ) × EachOnce n (view hands.into) (view hands.from))) }
 {
     let Ok(bells) = bells_of(alloc, workers) else {
         return (Err(SealFault::OutOfMemory), None);
     };
-    let Ok((jobs, mut into)) = JobLine::<N>::ruled(alloc, plan.depth + workers as usize) else {
+    let depth = context.plan.depth;
+    let Ok((jobs, into)) = JobLine::<N>::ruled(alloc, depth + workers as usize) else {
         return (Err(SealFault::OutOfMemory), None);
     };
-    let Ok((pieces, mut from)) = PieceLine::<N>::ruled(alloc, plan.depth) else {
+    let Ok((pieces, from)) = PieceLine::<N>::ruled(alloc, depth) else {
         return (Err(SealFault::OutOfMemory), None);
     };
+    let queues = Queues {
+        jobs: &jobs,
+        pieces: &pieces,
+        bells: bells.as_slice(),
+    };
+    let mut hands = Hands { into, from };
     let answer = crew(
-        rt,
-        alloc,
-        &jobs,
-        &pieces,
-        key,
-        header,
-        reader,
-        writer,
-        plan,
-        round,
-        gate,
-        bells.as_slice(),
-        workers,
-        &mut into,
-        &mut from,
+        rt, alloc, &queues, context, reader, writer, round, workers, &mut hands,
     );
-    jobs.learn_as::<Total>(&mut into);
-    pieces.learn_as::<Total>(&mut from);
-    (answer, Some((into, from)))
+    jobs.learn_as::<Total>(&mut hands.into);
+    pieces.learn_as::<Total>(&mut hands.from);
+    (answer, Some(hands))
 }

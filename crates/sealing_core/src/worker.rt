@@ -2,12 +2,11 @@
 ghost use Rattle.std.specs.Prelude.{◌≡◌, [], ◌<◌, length};
 ghost use Rattle.crossbeam_queue.specs.Passes.{view, IsPassOf};
 ghost use Rattle.sealing_core.specs.Hands.{hand, newcomer, HasRelayed};
-ghost use Rattle.sealing_core.specs.Pieces.{IsBlock};
 
-use crate::line::{Hand, JobLine, Naming, PieceLine, put_piece, take_task};
+use crate::context::SealingContext;
+use crate::line::{Hand, Naming, Queues, put_piece, take_task};
 use crate::piece::{Piece, Task, make_piece};
 use claim_core::Gate;
-use container_core::{Header, Key};
 use crossbeam_queue::Pass;
 use std::sync::Wait;
 use std::thread;
@@ -30,35 +29,29 @@ pub(crate) fn rest<T: Wait>(rt: &T, bell: &Parker, looks: u32) -> u32 {
 /// chunk's number right before it seals the chunk. It wakes the caller's thread, worker 0, once the piece is there.
 pub(crate) fn worker<N: Naming, R: Wait, G: Gate>(
     rt: &R,
-    jobs: &JobLine<N>,
-    pieces: &PieceLine<N>,
-    key: &Key,
-    header: &Header,
-    gate: &G,
-    bells: &[Parker],
+    queues: &Queues<'_, N>,
+    context: &SealingContext<'_, N, G>,
     me: u32,
-    each: u32,
     from: &mut Pass<Task, Hand>,
     into: &mut Pass<Piece, Hand>,
 )
-    requires me { (0 < me) × (me < length bells.now) }
-    requires named { (key.now ≡ N.key) × (header.now ≡ N.header) × (each ≡ N.each) }
-    requires each { IsBlock N.each N.header }
-    requires from { IsPassOf jobs.now from.old × (view from.old ≡ newcomer) }
-    requires into { IsPassOf pieces.now into.old × (view into.old ≡ newcomer) }
-    ensures { IsPassOf jobs.now from.new × IsPassOf pieces.now into.new × HasRelayed 1 (view from.new) (view into.new) }
+    requires me { (0 < me) × (me < length queues.now.bells.now) }
+    requires from { IsPassOf queues.now.jobs.now from.old × (view from.old ≡ newcomer) }
+    requires into { IsPassOf queues.now.pieces.now into.old × (view into.old ≡ newcomer) }
+    ensures { IsPassOf queues.now.jobs.now from.new × IsPassOf queues.now.pieces.now into.new
+        × HasRelayed 1 (view from.new) (view into.new) }
 {
     let mut looks = 0;
     for _ in rt.forever() {
-        match take_task(jobs, from) {
+        match take_task(queues.jobs, from) {
             Some(Task::Job { number, buffer }) => {
-                let piece = make_piece::<N, G>(key, header, gate, me, each, number, buffer);
-                put_piece(rt, pieces, into, piece);
-                bells[0].unpark();
+                let piece = make_piece(context, me, number, buffer);
+                put_piece(rt, queues.pieces, into, piece);
+                queues.bells[0].unpark();
                 looks = 0;
             }
             Some(Task::Stop) => break,
-            None => looks = rest(rt, &bells[me as usize], looks),
+            None => looks = rest(rt, &queues.bells[me as usize], looks),
         }
     }
 }

@@ -34,7 +34,7 @@ loop-preserved-in-Ok-true g c =
       jobs = was.jobs;
       pieces = t.from.0;
       parts = (was.parts.0, t.from.1 ∙ was.parts.1);
-      way = way_step _ _ _ _ _ c.args.plan _ _ _ _ _ _ _ (λ put order. t.order put _ order) was.way;
+      way = way_step _ _ _ _ _ c.args.context.now.plan _ _ _ _ _ _ _ (λ put order. t.order put _ order) was.way;
       handed = was.handed;
       room = (let r = was.room.0 in let s = t.room in omega arith, was.room.1, let r = was.room.2 in let p = t.places in omega arith);
       spare = λ k d less. t.spare k d less ∙ sizes;
@@ -48,7 +48,7 @@ pub returns-then-is_empty-clause-all : goal.returns-then-is_empty-clause-all
 returns-then-is_empty-clause-all g c = λ _.
     let was = c.loop.invariant in
     let t = c.in-Ok-false.ensures in (
-      way_step _ _ _ _ _ c.args.plan _ _ _ _ _ _ _ (λ put order. t.order put _ order) was.way,
+      way_step _ _ _ _ _ c.args.context.now.plan _ _ _ _ _ _ _ (λ put order. t.order put _ order) was.way,
       was.handed,
       c.is_open.ensures.closed c.if-is_open.false,
       c.is_empty.ensures c.if-is_empty.true,
@@ -64,14 +64,14 @@ loop-preserved-in-Some-take_spare g c =
     let sizes = c.room_bytes-room.ensures.value in
     let less = was.handed.0 unmet.0 in
     let most = r.few.1 in
-    let few : length c.read.new.self.held.items ≤ c.args.plan.group = omega arith in
+    let few : length c.read.new.self.held.items ≤ c.args.context.now.plan.group = omega arith in
     let place = c.in-Some-take_spare.ensures.buffer.1 in
     record {
       jobs = h.into.0;
       pieces = t.from.0;
       parts = (h.into.1 ∙ was.parts.0, t.from.1 ∙ was.parts.1);
       way = h.way _ _ few (λ over. let same = ap (λ ts. length ts) (r.over over) in omega arith)
-          (way_read _ _ _ _ _ _ c.args.plan _ _ _ _ _ unmet.0 (λ put hand. r.hand put hand) (way_step _ _ _ _ _ c.args.plan _ _ _ _ _ _ _ (λ put order. t.order put _ order) was.way));
+          (way_read _ _ _ _ _ _ c.args.context.now.plan _ _ _ _ _ unmet.0 (λ put hand. r.hand put hand) (way_step _ _ _ _ _ c.args.context.now.plan _ _ _ _ _ _ _ (λ put order. t.order put _ order) was.way));
       handed = h.handed few;
       room = (
         let a = was.room.0 in let b = t.room in let e = h.same.2 in omega arith,
@@ -95,8 +95,8 @@ loop-preserved g c =
       jobs = b.into.0;
       pieces = t.from.0;
       parts = (b.into.1 ∙ was.parts.0, t.from.1 ∙ was.parts.1);
-      way = b.way _ c.args.plan _ (way_step _ _ _ _ _ c.args.plan _ _ _ _ _ _ _ (λ put order. t.order put _ order) was.way);
-      handed = handed_as c.args.plan.group c.loop.round c.seal_or_rest-looks.new.round b.same.3 b.same.4 was.handed;
+      way = b.way _ c.args.context.now.plan _ (way_step _ _ _ _ _ c.args.context.now.plan _ _ _ _ _ _ _ (λ put order. t.order put _ order) was.way);
+      handed = handed_as c.args.context.now.plan.group c.loop.round c.seal_or_rest-looks.new.round b.same.3 b.same.4 was.handed;
       room = (
         let a = was.room.0 in let e = t.room in let f = b.same.1 in omega arith,
         let a = was.room.1 in let e = ap (λ v. deque_capacity v) b.same.4 in omega arith,

@@ -8,10 +8,10 @@ use Rattle.sealing_core.proofs.feed.run_rounds.Given as goal
 
 abbrev pub invariant-loop : goal.invariant-loop
 invariant-loop g l = record {
-  jobs : IsPassOf l.jobs l.into;
-  pieces : IsPassOf l.pieces l.from;
-  parts : ((view l.into).parts ≡ (view l.initial.into).parts) × ((view l.from).parts ≡ (view l.initial.from).parts);
-  way : IsUnderWay g.N.Naming.each g.N.Naming.key g.N.Naming.header g.N.Naming.told (g.R.Source.left l.reader) l.plan l.early (view l.into) (view l.from) l.round;
+  jobs : IsPassOf l.queues.jobs.now l.hands.into;
+  pieces : IsPassOf l.queues.pieces.now l.hands.from;
+  parts : ((view l.hands.into).parts ≡ (view l.initial.hands.into).parts) × ((view l.hands.from).parts ≡ (view l.initial.hands.from).parts);
+  way : IsUnderWay g.N.Naming.each g.N.Naming.key g.N.Naming.header g.N.Naming.told (g.R.Source.left l.reader) l.plan l.early (view l.hands.into) (view l.hands.from) l.round;
   handed : IsHanded l.plan.group l.round;
   spare : All (λ b. length b.items ≡ room g.N.Naming.each g.N.Naming.header) l.spare.items;
   room : (l.plan.depth ≤ deque_capacity l.early.places) × (l.plan.group ≤ deque_capacity l.round.held)

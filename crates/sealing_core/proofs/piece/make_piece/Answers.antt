@@ -12,12 +12,12 @@ numbers each mine number e few = subst (λ (n : ℕ). n * number + each ≤ 4294
 
 pub overflow_mul-first : goal.overflow_mul-first
 overflow_mul-first g c =
-    let most = numbers g.N.Naming.each c.args.each c.args.number c.requires.named.2 c.requires.numbers in
+    let most = numbers g.N.Naming.each c.args.context.now.plan.each c.args.number c.args.context.now.named.2 c.requires.numbers in
     omega arith
 
 pub seal_block-requires-clause-text : goal.seal_block-requires-clause-text
 seal_block-requires-clause-text g c =
-    let fits = fits_full g.N.Naming.each g.N.Naming.header _ c.block_bytes-size.result _ c.requires.each.0 c.requires.named.1 c.block_bytes-size.ensures.value c.requires.buffer in
+    let fits = fits_full g.N.Naming.each g.N.Naming.header _ c.block_bytes-size.result _ c.args.context.now.fits.0 c.args.context.now.named.1 c.block_bytes-size.ensures.value c.requires.buffer in
     let bytes = fits.bytes in
     let same = c.as_mut_slice.ensures.len in
     let long = c.requires.buffer in
@@ -25,14 +25,14 @@ seal_block-requires-clause-text g c =
 
 pub seal_block-requires-clause-numbers : goal.seal_block-requires-clause-numbers
 seal_block-requires-clause-numbers g c =
-    let fits = fits_full g.N.Naming.each g.N.Naming.header _ c.block_bytes-size.result _ c.requires.each.0 c.requires.named.1 c.block_bytes-size.ensures.value c.requires.buffer in
+    let fits = fits_full g.N.Naming.each g.N.Naming.header _ c.block_bytes-size.result _ c.args.context.now.fits.0 c.args.context.now.named.1 c.block_bytes-size.ensures.value c.requires.buffer in
     let count = fits.count in
-    let most = numbers g.N.Naming.each c.args.each c.args.number c.requires.named.2 c.requires.numbers in
+    let most = numbers g.N.Naming.each c.args.context.now.plan.each c.args.number c.args.context.now.named.2 c.requires.numbers in
     omega arith
 
 pub returns-clause-piece : goal.returns-clause-piece
 returns-clause-piece g c =
-    let fits = fits_full g.N.Naming.each g.N.Naming.header _ c.block_bytes-size.result _ c.requires.each.0 c.requires.named.1 c.block_bytes-size.ensures.value c.requires.buffer in
+    let fits = fits_full g.N.Naming.each g.N.Naming.header _ c.block_bytes-size.result _ c.args.context.now.fits.0 c.args.context.now.named.1 c.block_bytes-size.ensures.value c.requires.buffer in
     let seal = c.seal_block.ensures in
     let bytes = fits.bytes in
     let sealed = seal.bytes in
@@ -42,11 +42,11 @@ returns-clause-piece g c =
     let items = with_items_is c.args.buffer c.seal_block.new.text (omega arith) in
     let count = ap (λ (l : List ℕ). length l) items in
     let all = take_all c.seal_block.result c.seal_block.new.text (omega arith) in
-    let first = ap (λ (n : ℕ). n * c.args.number) c.requires.named.2 in (
+    let first = ap (λ (n : ℕ). n * c.args.number) c.args.context.now.named.2 in (
       omega arith,
       part_of g.N.Naming.each g.N.Naming.key g.N.Naming.header _ _ g.N.Naming.told c.args.number _ false
-          (take (block g.N.Naming.each g.N.Naming.header) c.args.buffer.items) _ c.requires.named.0 c.requires.named.1 first c.requires.text
+          (take (block g.N.Naming.each g.N.Naming.header) c.args.buffer.items) _ c.args.context.now.named.0 c.args.context.now.named.1 first c.requires.text
           (items ∙ sym all ∙ seal.sealed
-          ∙ ap (λ (l : List ℕ). stream_by c.args.key.now c.args.header.now (c.args.each * c.args.number) false (chunks (size_in c.args.header.now) (take c.block_bytes-size.result l))) c.as_mut_slice.ensures.value
-          ∙ ap (λ (n : ℕ). stream_by c.args.key.now c.args.header.now (c.args.each * c.args.number) false (chunks (size_in c.args.header.now) (take n c.args.buffer.items))) c.block_bytes-size.ensures.value),
+          ∙ ap (λ (l : List ℕ). stream_by c.args.context.now.key.now c.args.context.now.header.now (c.args.context.now.plan.each * c.args.number) false (chunks (size_in c.args.context.now.header.now) (take c.block_bytes-size.result l))) c.as_mut_slice.ensures.value
+          ∙ ap (λ (n : ℕ). stream_by c.args.context.now.key.now c.args.context.now.header.now (c.args.context.now.plan.each * c.args.number) false (chunks (size_in c.args.context.now.header.now) (take n c.args.buffer.items))) c.block_bytes-size.ensures.value),
     )

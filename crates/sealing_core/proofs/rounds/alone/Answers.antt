@@ -1,9 +1,8 @@
-use Rattle.std.proofs.Common.{arith, refl, ◌*◌, ◌∙◌, true, ℕ, List, ap, sym, subst, deque_len}
+use Rattle.std.proofs.Common.{arith, refl, ◌*◌, ◌∙◌, true, ap, sym, deque_len}
 use Rattle.std.proofs.lemmas.Bool.Decides.{Decides-eqb}
-use Rattle.sealing_core.specs.Order.{AreWritten}
 use Rattle.io_core.specs.Streams.{counted}
 use Rattle.sealing_core.proofs.ChunkLemmas.{same_number, written_at}
-use Rattle.sealing_core.proofs.MayLemmas.{may_as, may_behind}
+use Rattle.sealing_core.proofs.MayLemmas.{may_behind}
 use Rattle.sealing_core.proofs.Orders.{none_left}
 use Rattle.sealing_core.proofs.RoundLemmas.{hand_alone, jobs_tasks, not_both, put_all_but, rounds_counts, rounds_write}
 use Rattle.sealing_core.proofs.rounds.alone.Goals as goal
@@ -17,7 +16,6 @@ write_job-requires-clause-may g c = λ number is.
 pub end-requires-clause-may : goal.end-requires-clause-may
 end-requires-clause-may g c = λ ended.
     let was = c.jobs.invariant in
-    let header = sym (c.bytes.ensures.bytes ∙ c.requires.named.1) in
     let round = c.jobs.round in
     let empty = c.jobs-test.false in
     let is = c.is_empty.ensures in
@@ -26,9 +24,8 @@ end-requires-clause-may g c = λ ended.
     let number = put_all_but _ _ _ _ left limit was.number round
     (hand_alone _ _ _ _ left limit was.number c.args.round.now round was.same c.requires.ended was.count was.jobs was.last c.requires.hand.2) ended
     (let z = (Decides-eqb (deque_len round.held) 0).0 (sym is ∙ empty) in omega arith) in
-    may_behind _ _ _ _ _ _ _ _ _ _ was.bound (may_as _ _ _ _ _ _ _ _ header refl refl c.requires.may)
-    (written_at _ _ _ _ _ _ _ _ _ number
-    (subst (λ (l : List ℕ). AreWritten g.N.Naming.each l g.N.Naming.key g.N.Naming.header g.N.Naming.told (g.W.Output.taken c.args.writer.now) (g.W.Output.taken c.jobs.writer) was.number) header was.written))
+    may_behind _ _ _ _ _ _ _ _ _ _ was.bound c.requires.may
+    (written_at _ _ _ _ _ _ _ _ _ number was.written)
 
 pub returns-in-Err : goal.returns-in-Err
 returns-in-Err g c = record {
@@ -47,11 +44,10 @@ returns g c = record {
       let ended = ap (λ i. i.ended) was.same ∙ c.requires.ended in
       let empty = c.jobs-test.false in
       let is = c.is_empty.ensures in
-      rounds_counts _ _ _ _ _ _ _ _ _ _ _ _ _ _ _ _ _ (c.bytes.ensures.bytes ∙ c.requires.named.1) refl was.refusals
+      rounds_counts _ _ _ _ _ _ _ _ _ _ _ _ _ _ _ _ _ refl refl was.refusals
       (c.end.ensures.sealed left _ failures limit group was.number some
       (hand_alone _ _ _ _ left limit was.number c.args.round.now round was.same c.requires.ended was.count was.jobs was.last hand)
       (λ going. absurd (not_both _ ended going), λ _. none_left round.held.items (let z = (Decides-eqb (deque_len round.held) 0).0 (sym is ∙ empty) in omega arith))
       (λ going. absurd (not_both _ ended going))
-      (subst (λ (l : List ℕ). AreWritten g.N.Naming.each l g.N.Naming.key g.N.Naming.header g.N.Naming.told (g.W.Output.taken c.args.writer.now) (g.W.Output.taken c.jobs.writer) was.number)
-      (sym (c.bytes.ensures.bytes ∙ c.requires.named.1)) was.written));
+      was.written);
 }

@@ -11,7 +11,7 @@ invariant-jobs g l = record {
   jobs : AreJobs g.N.Naming.each g.N.Naming.header g.N.Naming.told number l.round.held.items;
   last : IsLast g.N.Naming.each g.N.Naming.key g.N.Naming.header g.N.Naming.told (length l.initial.round.held.items) l.round;
   same : l.round.intake ≡ l.initial.round.intake;
-  written : AreWritten g.N.Naming.each g.N.Naming.header g.N.Naming.key g.N.Naming.header g.N.Naming.told (g.W.Output.taken l.initial.writer) (g.W.Output.taken l.writer) number;
+  written : AreWritten g.N.Naming.each l.context.front.now g.N.Naming.key g.N.Naming.header g.N.Naming.told (g.W.Output.taken l.initial.writer) (g.W.Output.taken l.writer) number;
   bound : g.W.Output.bound l.writer ≡ g.W.Output.bound l.initial.writer;
   refusals : g.W.Output.failures l.writer ≡ g.W.Output.failures l.initial.writer;
 }

@@ -20,21 +20,21 @@ returns-clause-once g c =
     let same = c.learn_as.ensures.queue.1 in
     let same' = c.learn_as-2.ensures.queue.1 in
     on_each
-    (λ n (had : HasAll n (view c.crew-answer.new.into) (view c.crew-answer.new.from)).
-    rw (same, same') (each_once n task_numbers piece_numbers (view c.crew-answer.new.into) (view c.crew-answer.new.from) jobs.0 pieces.0 had jobs.1 pieces.1))
+    (λ n (had : HasAll n (view c.crew-answer.new.hands.into) (view c.crew-answer.new.hands.from)).
+    rw (same, same') (each_once n task_numbers piece_numbers (view c.crew-answer.new.hands.into) (view c.crew-answer.new.hands.from) jobs.0 pieces.0 had jobs.1 pieces.1))
     c.crew-answer.result c.crew-answer.ensures.all
 
 pub returns-in_default-clause-sealed : goal.returns-in_default-clause-sealed
 returns-in_default-clause-sealed g c =
     let r = c.requires.read.hand.read in
-    rounds_memory _ _ _ _ _ _ c.args.plan.limit (c.args.plan.group * g.N.Naming.each) _ _ _ _ c.requires.plan.0.limit.0 (r.bytes, r.consumed, r.bound) refl refl
+    rounds_memory _ _ _ _ _ _ c.args.context.now.plan.limit (c.args.context.now.plan.group * g.N.Naming.each) _ _ _ _ c.requires.plan.0.limit.0 (r.bytes, r.consumed, r.bound) refl refl
 
 pub returns-in_default-ruled-clause-sealed : goal.returns-in_default-ruled-clause-sealed
 returns-in_default-ruled-clause-sealed g c =
     let r = c.requires.read.hand.read in
-    rounds_memory _ _ _ _ _ _ c.args.plan.limit (c.args.plan.group * g.N.Naming.each) _ _ _ _ c.requires.plan.0.limit.0 (r.bytes, r.consumed, r.bound) refl refl
+    rounds_memory _ _ _ _ _ _ c.args.context.now.plan.limit (c.args.context.now.plan.group * g.N.Naming.each) _ _ _ _ c.requires.plan.0.limit.0 (r.bytes, r.consumed, r.bound) refl refl
 
 pub returns-in_default-ruled-2-clause-sealed : goal.returns-in_default-ruled-2-clause-sealed
 returns-in_default-ruled-2-clause-sealed g c =
     let r = c.requires.read.hand.read in
-    rounds_memory _ _ _ _ _ _ c.args.plan.limit (c.args.plan.group * g.N.Naming.each) _ _ _ _ c.requires.plan.0.limit.0 (r.bytes, r.consumed, r.bound) refl refl
+    rounds_memory _ _ _ _ _ _ c.args.context.now.plan.limit (c.args.context.now.plan.group * g.N.Naming.each) _ _ _ _ c.requires.plan.0.limit.0 (r.bytes, r.consumed, r.bound) refl refl

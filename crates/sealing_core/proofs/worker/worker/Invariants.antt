@@ -4,7 +4,7 @@ use Rattle.sealing_core.proofs.worker.worker.Given as goal
 
 abbrev pub invariant-loop : goal.invariant-loop
 invariant-loop g l = record {
-  jobs : IsPassOf l.jobs l.from;
-  pieces : IsPassOf l.pieces l.into;
+  jobs : IsPassOf l.queues.jobs.now l.from;
+  pieces : IsPassOf l.queues.pieces.now l.into;
   relayed : HasRelayed 1 (view l.from) (view l.into);
 }
