@@ -14,6 +14,7 @@ ghost use Rattle.opening_core.specs.Engine.{open_write_failed};
 ghost use Rattle.opening_core.specs.Windows.{HasBegunLast, HasGathered, HasTurned, IsReady, IsTakingFault};
 ghost use Rattle.opening_core.specs.Windows.{IsTurningFault, MayTakeLast, OpensRound};
 
+use crate::context::OpeningContext;
 use crate::rooms::{Rooms, byte_behind};
 use crate::taking::Taking;
 use crate::window::Window;
@@ -127,36 +128,33 @@ fn full_round<'a>(
 // byte, which was seen before.
 pub(crate) fn open_full<'a, R: Source, G: Gate, O: Taking>(
     alloc: Global,
-    task: Task,
-    key: &'a Key,
-    header: &Header,
+    context: &OpeningContext<'_, 'a, G>,
     first: u32,
-    chunks: u32,
     rooms: &mut Rooms,
     boxes: &[LetterBox<'a>],
     reader: &mut R,
     out: &mut O,
     upto: usize,
-    gate: &G,
 ) -> Result<(), OpenFault>
-    requires task { task ≢ Task.Sealing }
-    requires chunks { (0 < chunks) × (chunks ≤ MAX_WINDOW) }
-    requires numbers { first + chunks ≤ 2 ^ 32 }
-    requires full { chunks * (size_in header.now + TAG) < length rooms.old.current.held }
+    requires numbers { first + context.now.window ≤ 2 ^ 32 }
+    requires full { context.now.window * (size_in context.now.header.now + TAG) < length rooms.old.current.held }
     requires upto { (0 < upto) × (upto ≤ rooms.old.next.room) }
     requires may { Admits (O.bound out.old) (O.bytes out.old) (joined rooms.old.places.values) }
-    requires ready { IsReady task (size_in header.now) (chunks * (size_in header.now + TAG))
+    requires ready { IsReady context.now.task (size_in context.now.header.now)
+        (context.now.window * (size_in context.now.header.now + TAG))
         rooms.old.crew rooms.old.places }
-    ensures values { OnOk result (rooms.new.places.values ≡ values_of task key.now header.now first false
-        (take (chunks * (size_in header.now + TAG)) rooms.old.current.held)) }
-    ensures count { OnOk result (length rooms.new.places.values ≡ chunks) }
+    ensures values { OnOk result (rooms.new.places.values
+        ≡ values_of context.now.task context.now.key.now context.now.header.now first false
+        (take (context.now.window * (size_in context.now.header.now + TAG)) rooms.old.current.held)) }
+    ensures count { OnOk result (length rooms.new.places.values ≡ context.now.window) }
     ensures turned { HasTurned (R.left reader.old) (R.left reader.new) (R.failures reader.old) (R.failures reader.new)
         rooms.old.next rooms.new.current
-        (slice_index rooms.old.current.held (chunks * (size_in header.now + TAG))) upto result }
+        (slice_index rooms.old.current.held (context.now.window * (size_in context.now.header.now + TAG))) upto result }
     ensures gathered { HasGathered (O.bytes out.old) (O.bytes out.new) (O.failures out.old) (O.failures out.new)
         (O.bound out.old) (O.bound out.new) rooms.old.places.values result }
     ensures fault { IfErr result (IsTurningFault O.writes) }
-    ensures ready { OnOk result (IsReady task (size_in header.now) (chunks * (size_in header.now + TAG))
+    ensures ready { OnOk result (IsReady context.now.task (size_in context.now.header.now)
+        (context.now.window * (size_in context.now.header.now + TAG))
         rooms.new.crew rooms.new.places) }
     ensures room { OnOk result (rooms.new.next ≡ rooms.old.current) }
 {
@@ -166,13 +164,22 @@ pub(crate) fn open_full<'a, R: Source, G: Gate, O: Taking>(
         crew,
         places,
     } = rooms;
+    let header = context.header;
+    let chunks = context.window;
     let ahead = byte_behind(current, sealed_bytes(chunks, header));
     let held = current.held().len();
-    let round = full_round(task, key, header, first, chunks, current.take_buffer(alloc));
+    let round = full_round(
+        context.task,
+        context.key,
+        header,
+        first,
+        chunks,
+        current.take_buffer(alloc),
+    );
     let sharing = crew.share(alloc, round, boxes);
     let turned = turn(alloc, reader, out, places, next, ahead, upto);
     // Also after a fault: a gate may wait for the other pieces.
-    let finished = crew.finish(alloc, sharing, gate, places);
+    let finished = crew.finish(alloc, sharing, context.gate, places);
     match turned {
         Ok(()) => {}
         Err(fault) => return Err(fault),
@@ -188,30 +195,29 @@ pub(crate) fn open_full<'a, R: Source, G: Gate, O: Taking>(
 // Opens the last round, and takes the plaintext of the previous one and of this one.
 pub(crate) fn open_last<'a, G: Gate, O: Taking>(
     alloc: Global,
-    task: Task,
-    key: &'a Key,
-    header: &Header,
+    context: &OpeningContext<'_, 'a, G>,
     first: u32,
     rooms: &mut Rooms,
     boxes: &[LetterBox<'a>],
     out: &mut O,
-    gate: &G,
 ) -> Result<(), OpenFault>
-    requires task { task ≢ Task.Sealing }
-    requires cut { (plain : ℕ) × (length rooms.old.current.held ≡ body_length (size_in header.now) plain)
-        × (plain ≤ MAX_CHUNKS * size_in header.now) × (first + chunk_count (size_in header.now) plain ≤ 2 ^ 32) }
-    requires ready { IsReady task (size_in header.now) (length rooms.old.current.held)
+    requires cut { (plain : ℕ) × (length rooms.old.current.held ≡ body_length (size_in context.now.header.now) plain)
+        × (plain ≤ MAX_CHUNKS * size_in context.now.header.now)
+        × (first + chunk_count (size_in context.now.header.now) plain ≤ 2 ^ 32) }
+    requires ready { IsReady context.now.task (size_in context.now.header.now) (length rooms.old.current.held)
         rooms.old.crew rooms.old.places }
-    requires may { MayTakeLast task key.now header.now first rooms.old.current.held rooms.old.places.values
+    requires may { MayTakeLast context.now.task context.now.key.now context.now.header.now first
+        rooms.old.current.held rooms.old.places.values
         (O.bound out.old) (O.bytes out.old) }
     ensures opened { OnOk result ((last : List ℕ)
-        × OpensRound task key.now header.now first true rooms.old.current.held last
+        × OpensRound context.now.task context.now.key.now context.now.header.now first true rooms.old.current.held last
         × Appends (O.bytes out.old) (O.bytes out.new) (joined rooms.old.places.values ++ last)) }
-    ensures begun { OnErr result (task ≡ Task.Opening
-        → HasBegunLast key.now header.now first rooms.old.current.held rooms.old.places.values
+    ensures begun { OnErr result (context.now.task ≡ Task.Opening
+        → HasBegunLast context.now.key.now context.now.header.now first rooms.old.current.held rooms.old.places.values
         (O.bytes out.old) (O.bytes out.new)) }
     ensures refused { IfErr result (λ fault. IsOfBytes fault
-        → unsealed_by key.now header.now first true (sealed_chunks (size_in header.now) rooms.old.current.held)
+        → unsealed_by context.now.key.now context.now.header.now first true
+        (sealed_chunks (size_in context.now.header.now) rooms.old.current.held)
         ≡ Err fault) }
     ensures fault { IfErr result (λ fault. IsOfBytes fault ⊎ IsTakingFault O.writes fault) }
     ensures writes { O.failures out.new ≡ counted (open_write_failed result) (O.failures out.old) }
@@ -224,15 +230,17 @@ pub(crate) fn open_last<'a, G: Gate, O: Taking>(
         crew,
         places,
     } = rooms;
+    let task = context.task;
+    let header = context.header;
     let length = current.held().len();
     let Ok(cut) = Cut::of_body(header, length as u64) else {
         unreachable!();
     };
     let bytes = current.take_buffer(alloc);
-    let round = OwnedRound::new(task, key, header, first, true, cut, bytes, length);
+    let round = OwnedRound::new(task, context.key, header, first, true, cut, bytes, length);
     let sharing = crew.share(alloc, round, boxes);
     let taken = out.take(alloc, places);
-    let finished = crew.finish(alloc, sharing, gate, places);
+    let finished = crew.finish(alloc, sharing, context.gate, places);
     match taken {
         Ok(()) => {}
         Err(fault) => return Err(fault),

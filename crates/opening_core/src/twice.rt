@@ -18,6 +18,7 @@ ghost use Rattle.opening_core.specs.Twice.{CountsOn, HasOpenedTwice, HasWrittenA
 ghost use Rattle.opening_core.specs.Twice.{broken_by_read, broken_by_write};
 ghost use Rattle.opening_core.specs.Windows.{HasBegun, HasSent, MayTake};
 
+use crate::context::OpeningContext;
 use crate::front::open_front;
 use crate::pouring::Pouring;
 use crate::run::run_check;
@@ -118,19 +119,15 @@ fn write_body<'b, 'a, T: Threads + Clock + Sync, R: Source, W: Output + Drop, G:
 {
     let mut out = Pouring { sink: writer };
     let window = usual_opening(header.chunk(), workers.count());
-    let done = open_body(
-        rt,
-        alloc,
-        Task::Opening,
+    let context = OpeningContext {
+        task: Task::Opening,
         key,
         header,
-        reader,
         max_bytes,
-        workers,
         window,
-        &mut out,
         gate,
-    );
+    };
+    let done = open_body(rt, alloc, &context, reader, workers, &mut out);
     let Pouring { sink } = out;
     (done, sink)
 }

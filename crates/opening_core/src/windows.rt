@@ -19,6 +19,7 @@ ghost use Rattle.opening_core.specs.Fronts.{Answers, SaysLength};
 ghost use Rattle.opening_core.specs.Workers.{AreWorkers};
 ghost use Rattle.opening_core.specs.Windows.{HasBegun, HasSent, HasTaken, most_first, IsReady, MayTake};
 
+use crate::context::OpeningContext;
 use crate::front::{open_front, refuse};
 use crate::rooms::Rooms;
 use crate::rounds::{checked, open_full, open_last, sealed_bytes};
@@ -89,53 +90,60 @@ fn begin<R: Source>(
 // only checked. Returns how many bytes the plaintext has. Clauses are of any input that began with that window.
 fn open_begun<'a, R: Source, G: Gate, O: Taking>(
     alloc: Global,
-    task: Task,
-    key: &'a Key,
-    header: &Header,
+    context: &OpeningContext<'_, 'a, G>,
     rooms: &mut Rooms,
     boxes: &[LetterBox<'a>],
     reader: &mut R,
-    max_bytes: u64,
-    window: u32,
     out: &mut O,
-    gate: &G,
 ) -> Result<u64, OpenFault>
-    requires task { task ≢ Task.Sealing }
-    requires front { SaysLength key.now header.now }
-    requires limit { longest max_bytes header.now
-        ≡ container_limit (length header.now) (size_in header.now) max_bytes }
-    requires max_bytes { max_bytes ≤ MAX_OPENED }
-    requires window { (0 < window) × (window ≤ MAX_WINDOW) }
-    requires within { length rooms.old.current.held ≤ most_first max_bytes header.now window }
-    requires end { length rooms.old.current.held < most_first max_bytes header.now window → IsAtEnd (R.left reader.old) }
-    requires room { window * (size_in header.now + TAG) + 1 ≤ rooms.old.current.room }
+    requires front { SaysLength context.now.key.now context.now.header.now }
+    requires limit { longest context.now.max_bytes context.now.header.now
+        ≡ container_limit (length context.now.header.now) (size_in context.now.header.now) context.now.max_bytes }
+    requires within { length rooms.old.current.held
+        ≤ most_first context.now.max_bytes context.now.header.now context.now.window }
+    requires end { length rooms.old.current.held
+        < most_first context.now.max_bytes context.now.header.now context.now.window → IsAtEnd (R.left reader.old) }
+    requires room { context.now.window * (size_in context.now.header.now + TAG) + 1 ≤ rooms.old.current.room }
     requires next { length rooms.old.current.held ≤ rooms.old.next.room }
-    requires ready { IsReady task (size_in header.now)
-        (min (window * (size_in header.now + TAG)) (length rooms.old.current.held)) rooms.old.crew rooms.old.places }
+    requires ready { IsReady context.now.task (size_in context.now.header.now)
+        (min (context.now.window * (size_in context.now.header.now + TAG))
+        (length rooms.old.current.held)) rooms.old.crew rooms.old.places }
     requires places { rooms.old.places.values ≡ [] }
     requires may { (left : Option (List ℕ)) × Consumes left (R.left reader.old) rooms.old.current.held
-        × IfSome (O.bound out.old) (MayTake task key.now header.now max_bytes left (O.bytes out.old)) }
+        × IfSome (O.bound out.old) (MayTake context.now.task context.now.key.now context.now.header.now
+        context.now.max_bytes left (O.bytes out.old)) }
     ensures opened { (left : Option (List ℕ)) → Consumes left (R.left reader.old) rooms.old.current.held
         → IfOk result (λ n. (plain : List ℕ) × (n ≡ length plain)
-        × Answers key.now header.now max_bytes left (R.left reader.new) (Ok plain)
-        × (task ≡ Task.Opening → Appends (O.bytes out.old) (O.bytes out.new) plain)) }
+        × Answers context.now.key.now context.now.header.now context.now.max_bytes left (R.left reader.new) (Ok plain)
+        × (context.now.task ≡ Task.Opening → Appends (O.bytes out.old) (O.bytes out.new) plain)) }
     ensures begun { (left : Option (List ℕ)) → Consumes left (R.left reader.old) rooms.old.current.held
-        → OnErr result (task ≡ Task.Opening
-        → HasBegun key.now header.now max_bytes left (O.bytes out.old) (O.bytes out.new)) }
+        → OnErr result (context.now.task ≡ Task.Opening
+        → HasBegun context.now.key.now context.now.header.now context.now.max_bytes left (O.bytes out.old)
+        (O.bytes out.new)) }
     ensures sent { (left : Option (List ℕ)) → Consumes left (R.left reader.old) rooms.old.current.held
-        → OnErr result (task ≡ Task.Opening
-        → HasSent key.now header.now [] left (O.bytes out.old) (O.bytes out.new)) }
+        → OnErr result (context.now.task ≡ Task.Opening
+        → HasSent context.now.key.now context.now.header.now [] left (O.bytes out.old) (O.bytes out.new)) }
     ensures refused { (left : Option (List ℕ)) → Consumes left (R.left reader.old) rooms.old.current.held
         → IfErr result (λ fault. IsOfBytes fault
-        → Answers key.now header.now max_bytes left (R.left reader.new) (Err fault)) }
+        → Answers context.now.key.now context.now.header.now context.now.max_bytes left (R.left reader.new)
+        (Err fault)) }
     ensures bound { (left : Option (List ℕ)) → Consumes left (R.left reader.old) rooms.old.current.held
-        → ConsumesUpTo left (R.left reader.new) (longest max_bytes header.now + 1 - length header.now) }
+        → ConsumesUpTo left (R.left reader.new)
+        (longest context.now.max_bytes context.now.header.now + 1 - length context.now.header.now) }
     ensures no_write { result ≡ Err OpenFault.Write → O.writes ≡ true }
     ensures count { R.failures reader.new ≡ counted (open_read_failed result) (R.failures reader.old) }
     ensures writes { O.failures out.new ≡ counted (open_write_failed result) (O.failures out.old) }
 {
     // Consecutive rounds open as the whole does.
     rounds_open();
+    let OpeningContext {
+        task,
+        key,
+        header,
+        max_bytes,
+        window,
+        gate: _,
+    } = *context;
     let image = header.bytes();
     let limit = header.longest_bytes(max_bytes) as usize + 1;
     let size = sealed_bytes(window, header);
@@ -143,9 +151,7 @@ fn open_begun<'a, R: Source, G: Gate, O: Taking>(
     let mut first = 0;
     'rounds: while total < limit && rooms.current.held().len() > size {
         let upto = (limit - total).min(size) + 1;
-        match open_full(
-            alloc, task, key, header, first, window, rooms, boxes, reader, out, upto, gate,
-        ) {
+        match open_full(alloc, context, first, rooms, boxes, reader, out, upto) {
             Ok(()) => {}
             Err(fault) => return Err(fault),
         }
@@ -160,7 +166,7 @@ fn open_begun<'a, R: Source, G: Gate, O: Taking>(
         Ok((_, cut)) => cut,
         Err(fault) => return Err(fault),
     };
-    match open_last(alloc, task, key, header, first, rooms, boxes, out, gate) {
+    match open_last(alloc, context, first, rooms, boxes, out) {
         Ok(()) => Ok(cut.plain()),
         Err(fault) => Err(fault),
     }
@@ -171,52 +177,48 @@ fn open_begun<'a, R: Source, G: Gate, O: Taking>(
 pub(crate) fn open_body<'b, 'a, T: Threads + Clock + Sync, R: Source, G: Gate + Sync, O: Taking>(
     rt: &T,
     alloc: Global,
-    task: Task,
-    key: &'a Key,
-    header: &Header,
+    context: &OpeningContext<'_, 'a, G>,
     reader: &mut R,
-    max_bytes: u64,
     workers: Workers<'b, 'a>,
-    window: u32,
     out: &mut O,
-    gate: &G,
 ) -> Result<u64, OpenFault>
-    requires task { task ≢ Task.Sealing }
-    requires front { SaysLength key.now header.now }
-    requires limit { longest max_bytes header.now
-        ≡ container_limit (length header.now) (size_in header.now) max_bytes }
-    requires max_bytes { max_bytes ≤ MAX_OPENED }
+    requires front { SaysLength context.now.key.now context.now.header.now }
+    requires limit { longest context.now.max_bytes context.now.header.now
+        ≡ container_limit (length context.now.header.now) (size_in context.now.header.now) context.now.max_bytes }
     requires workers { AreWorkers workers }
-    requires window { (0 < window) × (window ≤ MAX_WINDOW) }
     requires may { IfSome (O.bound out.old)
-        (MayTake task key.now header.now max_bytes (R.left reader.old) (O.bytes out.old)) }
+        (MayTake context.now.task context.now.key.now context.now.header.now context.now.max_bytes (R.left reader.old)
+        (O.bytes out.old)) }
     ensures opened { IfOk result (λ n. (plain : List ℕ) × (n ≡ length plain)
-        × Answers key.now header.now max_bytes (R.left reader.old) (R.left reader.new) (Ok plain)
-        × (task ≡ Task.Opening → Appends (O.bytes out.old) (O.bytes out.new) plain)) }
-    ensures begun { OnErr result (task ≡ Task.Opening
-        → HasBegun key.now header.now max_bytes (R.left reader.old) (O.bytes out.old) (O.bytes out.new)) }
-    ensures sent { OnErr result (task ≡ Task.Opening
-        → HasSent key.now header.now [] (R.left reader.old) (O.bytes out.old) (O.bytes out.new)) }
+        × Answers context.now.key.now context.now.header.now context.now.max_bytes (R.left reader.old)
+        (R.left reader.new) (Ok plain)
+        × (context.now.task ≡ Task.Opening → Appends (O.bytes out.old) (O.bytes out.new) plain)) }
+    ensures begun { OnErr result (context.now.task ≡ Task.Opening
+        → HasBegun context.now.key.now context.now.header.now context.now.max_bytes (R.left reader.old)
+        (O.bytes out.old) (O.bytes out.new)) }
+    ensures sent { OnErr result (context.now.task ≡ Task.Opening
+        → HasSent context.now.key.now context.now.header.now [] (R.left reader.old) (O.bytes out.old)
+        (O.bytes out.new)) }
     ensures refused { IfErr result (λ fault. IsOfBytes fault
-        → Answers key.now header.now max_bytes (R.left reader.old) (R.left reader.new) (Err fault)) }
+        → Answers context.now.key.now context.now.header.now context.now.max_bytes (R.left reader.old)
+        (R.left reader.new) (Err fault)) }
     ensures bound { ConsumesUpTo (R.left reader.old) (R.left reader.new)
-        (longest max_bytes header.now + 1 - length header.now) }
+        (longest context.now.max_bytes context.now.header.now + 1 - length context.now.header.now) }
     ensures no_write { result ≡ Err OpenFault.Write → O.writes ≡ true }
     ensures count { R.failures reader.new ≡ counted (open_read_failed result) (R.failures reader.old) }
     ensures writes { O.failures out.new ≡ counted (open_write_failed result) (O.failures out.old) }
 {
+    let header = context.header;
     let image = header.bytes();
-    let most = header.longest_bytes(max_bytes) as usize + 1 - image.len();
-    let mut rooms = match begin(alloc, task, header, reader, most, window) {
+    let most = header.longest_bytes(context.max_bytes) as usize + 1 - image.len();
+    let mut rooms = match begin(alloc, context.task, header, reader, most, context.window) {
         Ok(rooms) => rooms,
         Err(fault) => return Err(fault),
     };
     let count = match workers {
         Workers::ToStart(count) => count,
         Workers::Running(boxes) => {
-            return open_begun(
-                alloc, task, key, header, &mut rooms, boxes, reader, max_bytes, window, out, gate,
-            );
+            return open_begun(alloc, context, &mut rooms, boxes, reader, out);
         }
     };
     // More workers than a round has pieces would have nothing to do.
@@ -224,47 +226,49 @@ pub(crate) fn open_body<'b, 'a, T: Threads + Clock + Sync, R: Source, G: Gate + 
     let boxes = boxes.as_slice();
     let kept = &mut rooms;
     let mut chore = || -> Result<u64, OpenFault>
-        requires task { task ≢ Task.Sealing }
-        requires front { SaysLength key.now header.now }
-        requires limit { longest max_bytes header.now
-            ≡ container_limit (length header.now) (size_in header.now) max_bytes }
-        requires max_bytes { max_bytes ≤ MAX_OPENED }
-        requires window { (0 < window) × (window ≤ MAX_WINDOW) }
-        requires within { length kept.now.current.held ≤ most_first max_bytes header.now window }
-        requires end { length kept.now.current.held < most_first max_bytes header.now window
+        requires front { SaysLength context.now.key.now context.now.header.now }
+        requires limit { longest context.now.max_bytes context.now.header.now
+            ≡ container_limit (length context.now.header.now) (size_in context.now.header.now) context.now.max_bytes }
+        requires within { length kept.now.current.held
+            ≤ most_first context.now.max_bytes context.now.header.now context.now.window }
+        requires end { length kept.now.current.held
+            < most_first context.now.max_bytes context.now.header.now context.now.window
             → IsAtEnd (R.left reader.now) }
-        requires room { window * (size_in header.now + TAG) + 1 ≤ kept.now.current.room }
+        requires room { context.now.window * (size_in context.now.header.now + TAG) + 1 ≤ kept.now.current.room }
         requires next { length kept.now.current.held ≤ kept.now.next.room }
-        requires ready { IsReady task (size_in header.now)
-            (min (window * (size_in header.now + TAG)) (length kept.now.current.held)) kept.now.crew kept.now.places }
+        requires ready { IsReady context.now.task (size_in context.now.header.now)
+            (min (context.now.window * (size_in context.now.header.now + TAG))
+            (length kept.now.current.held)) kept.now.crew kept.now.places }
         requires places { kept.now.places.values ≡ [] }
         requires may { (left : Option (List ℕ)) × Consumes left (R.left reader.now) kept.now.current.held
-            × IfSome (O.bound out.now) (MayTake task key.now header.now max_bytes left (O.bytes out.now)) }
+            × IfSome (O.bound out.now) (MayTake context.now.task context.now.key.now context.now.header.now
+            context.now.max_bytes left (O.bytes out.now)) }
         ensures opened { (left : Option (List ℕ)) → Consumes left (R.left reader.entry.now) kept.entry.now.current.held
             → IfOk result (λ n. (plain : List ℕ) × (n ≡ length plain)
-            × Answers key.entry.now header.entry.now max_bytes left (R.left reader.exit.now) (Ok plain)
-            × (task ≡ Task.Opening → Appends (O.bytes out.entry.now) (O.bytes out.exit.now) plain)) }
+            × Answers context.entry.now.key.now context.entry.now.header.now context.entry.now.max_bytes left
+            (R.left reader.exit.now) (Ok plain)
+            × (context.entry.now.task ≡ Task.Opening → Appends (O.bytes out.entry.now) (O.bytes out.exit.now) plain)) }
         ensures begun { (left : Option (List ℕ)) → Consumes left (R.left reader.entry.now) kept.entry.now.current.held
-            → OnErr result (task ≡ Task.Opening → HasBegun key.entry.now header.entry.now max_bytes left
+            → OnErr result (context.entry.now.task ≡ Task.Opening
+            → HasBegun context.entry.now.key.now context.entry.now.header.now context.entry.now.max_bytes left
             (O.bytes out.entry.now) (O.bytes out.exit.now)) }
         ensures sent { (left : Option (List ℕ)) → Consumes left (R.left reader.entry.now) kept.entry.now.current.held
-            → OnErr result (task ≡ Task.Opening → HasSent key.entry.now header.entry.now [] left
+            → OnErr result (context.entry.now.task ≡ Task.Opening
+            → HasSent context.entry.now.key.now context.entry.now.header.now [] left
             (O.bytes out.entry.now) (O.bytes out.exit.now)) }
         ensures refused { (left : Option (List ℕ)) → Consumes left (R.left reader.entry.now) kept.entry.now.current.held
             → IfErr result (λ fault. IsOfBytes fault
-            → Answers key.entry.now header.entry.now max_bytes left (R.left reader.exit.now) (Err fault)) }
+            → Answers context.entry.now.key.now context.entry.now.header.now context.entry.now.max_bytes left
+            (R.left reader.exit.now) (Err fault)) }
         ensures bound { (left : Option (List ℕ)) → Consumes left (R.left reader.entry.now) kept.entry.now.current.held
             → ConsumesUpTo left (R.left reader.exit.now)
-            (longest max_bytes header.entry.now + 1 - length header.entry.now) }
+            (longest context.entry.now.max_bytes context.entry.now.header.now + 1
+            - length context.entry.now.header.now) }
         ensures no_write { result ≡ Err OpenFault.Write → O.writes ≡ true }
         ensures count { R.failures reader.exit.now ≡ counted (open_read_failed result) (R.failures reader.entry.now) }
         ensures writes { O.failures out.exit.now ≡ counted (open_write_failed result) (O.failures out.entry.now) }
-    {
-        open_begun(
-            alloc, task, key, header, kept, boxes, reader, max_bytes, window, out, gate,
-        )
-    };
-    with_workers(rt, alloc, boxes, gate, &mut chore)
+    { open_begun(alloc, context, kept, boxes, reader, out) };
+    with_workers(rt, alloc, boxes, context.gate, &mut chore)
 }
 
 /// Opens all that the reader has left, in rounds of `window` chunks, or of `usual_opening` where
@@ -301,9 +305,15 @@ pub(crate) fn open_rounds<'b, 'a, T: Threads + Clock + Sync, R: Source, G: Gate 
     match open_front(key, reader, max_bytes) {
         Ok(header) => {
             let window = window.unwrap_or(usual_opening(header.chunk(), workers.count()));
-            match open_body(
-                rt, alloc, task, key, &header, reader, max_bytes, workers, window, out, gate,
-            ) {
+            let context = OpeningContext {
+                task,
+                key,
+                header: &header,
+                max_bytes,
+                window,
+                gate,
+            };
+            match open_body(rt, alloc, &context, reader, workers, out) {
                 Ok(bytes) => Ok((header, bytes)),
                 Err(fault) => Err(fault),
             }

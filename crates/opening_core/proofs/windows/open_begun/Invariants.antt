@@ -16,19 +16,19 @@ invariant-rounds g l = record {
   past : List ℕ;
   plain : List ℕ;
   consumed : (left : Option (List ℕ)) → Consumes left (g.R.Source.left l.fn.reader) l.fn.rooms.current.held → Consumes left (g.R.Source.left l.reader) (past ++ l.rooms.current.held);
-  opens : OpensBehind l.key l.header l.first past plain;
-  kept : l.task ≡ Opening → Sent (g.O.Taking.bytes l.fn.out) (g.O.Taking.bytes l.out) plain (joined l.rooms.places.values);
+  opens : OpensBehind l.context.key.now l.context.header.now l.first past plain;
+  kept : l.context.task ≡ Opening → Sent (g.O.Taking.bytes l.fn.out) (g.O.Taking.bytes l.out) plain (joined l.rooms.places.values);
   none : l.first ≡ 0 → plain ≡ [];
-  checks : 0 < l.first → unsealed_by l.key l.header 0 false (sealed_chunks (size_in l.header) past) ≡ Ok plain;
+  checks : 0 < l.first → unsealed_by l.context.key.now l.context.header.now 0 false (sealed_chunks (size_in l.context.header.now) past) ≡ Ok plain;
   bound : g.O.Taking.bound l.out ≡ g.O.Taking.bound l.fn.out;
   writes : g.O.Taking.failures l.out ≡ g.O.Taking.failures l.fn.out;
-  long : length past ≡ l.first * (size_in l.header + 16);
-  total : (l.total ≡ length l.header + (l.first * (size_in l.header + 16) + length l.rooms.current.held)) × (l.total ≤ l.limit);
-  held : length l.rooms.current.held ≤ l.fn.window * (size_in l.header + 16) + 1;
-  end : l.total < l.limit → length l.rooms.current.held ≤ l.fn.window * (size_in l.header + 16) → IsAtEnd (g.R.Source.left l.reader);
+  long : length past ≡ l.first * (size_in l.context.header.now + 16);
+  total : (l.total ≡ length l.context.header.now + (l.first * (size_in l.context.header.now + 16) + length l.rooms.current.held)) × (l.total ≤ l.limit);
+  held : length l.rooms.current.held ≤ l.context.window * (size_in l.context.header.now + 16) + 1;
+  end : l.total < l.limit → length l.rooms.current.held ≤ l.context.window * (size_in l.context.header.now + 16) → IsAtEnd (g.R.Source.left l.reader);
   some : 0 < l.first → 0 < length l.rooms.current.held;
-  room : (l.fn.window * (size_in l.header + 16) + 1 ≤ l.rooms.current.room) × (l.fn.window * (size_in l.header + 16) < length l.rooms.current.held → l.fn.window * (size_in l.header + 16) + 1 ≤ l.rooms.next.room);
-  ready : IsReady l.task (size_in l.header) (min (l.fn.window * (size_in l.header + 16)) (length l.rooms.current.held)) l.rooms.crew l.rooms.places;
+  room : (l.context.window * (size_in l.context.header.now + 16) + 1 ≤ l.rooms.current.room) × (l.context.window * (size_in l.context.header.now + 16) < length l.rooms.current.held → l.context.window * (size_in l.context.header.now + 16) + 1 ≤ l.rooms.next.room);
+  ready : IsReady l.context.task (size_in l.context.header.now) (min (l.context.window * (size_in l.context.header.now + 16)) (length l.rooms.current.held)) l.rooms.crew l.rooms.places;
   count : g.R.Source.failures l.reader ≡ g.R.Source.failures l.fn.reader;
 }
 
