@@ -5,6 +5,7 @@
 #![tactic(auto)]
 
 pub mod commands;
+mod context;
 pub mod facts;
 pub mod folder;
 pub mod key_file;

@@ -1,7 +1,8 @@
 //! Opening: each file in turn, with its line on standard output.
 //!
-//! The first file that is worth several workers starts them, once, and they last to the end of the command. Until then a
-//! file whose length isn't known starts its own for each reading, as nothing may come of it for long.
+//! The first file that is worth several workers starts them, once, and they last to the end of the command; where there
+//! is no room for that, this thread goes on alone. A file whose length isn't known doesn't start them, as nothing may come
+//! of it for long: it starts its own for each reading.
 ghost use Rattle.std.specs.Prelude.{◌≡◌, ℕ, ◌+◌, ◌<◌, ◌≤◌, List, [], ◌∷◌, ◌++◌, length, map, take, Option, Some, Ok, Err};
 ghost use Rattle.std.specs.Prelude.{IfOk, IfErr, IfSome, OnOk, option_map, MatchOption};
 ghost use Rattle.io_core.specs.Streams.{counted};
@@ -13,6 +14,7 @@ ghost use Rattle.command_core.specs.Work.{Opening, OpeningRead, asked_label, ask
 ghost use Rattle.command_core.specs.Work.{reading_failed};
 
 use crate::commands::{MAX_OPENED_BYTES, OpenOptions, Outs, SUFFIX, fault_again, tell};
+use crate::context::FilesContext;
 use crate::folder::{FolderFault, OpeningFolder, write_again_or_give_up, write_or_give_up};
 use crate::line::{FileFault, FileOutcome};
 use crate::reading::{check_labelled, read_labelled, room_to_start, workers_for, workers_from};
@@ -24,7 +26,7 @@ use opening_core::{Workers, boxes_beside};
 use std::alloc::Global;
 use std::thread::Threads;
 use std::time::Clock;
-use worker_core::{LetterBox, with_workers};
+use worker_core::with_workers;
 
 // The name of the output of a file: the one that is given, or else that of a sealed file, at least one byte before
 // `.stm`.
@@ -59,28 +61,30 @@ fn refusal(fault: FolderFault) -> FileFault
 // second reading writes the plaintext.
 fn open_again<'b, 'a, T: Threads + Clock + Sync, F: OpeningFolder>(
     rt: &T,
-    alloc: Global,
-    key: &'a Key,
+    context: &FilesContext<'_, 'a>,
     folder: &mut F,
     reader: &mut F::Reader,
     name: &str,
     output: &str,
-    options: &OpenOptions,
     workers: Workers<'b, 'a>,
 ) -> FileOutcome
-    requires range { AreInRange options.now }
     requires workers { AreWorkers workers }
-    requires name { IsOpenable (asked_output options.now) name.now }
+    requires name { IsOpenable (asked_output context.now.options.now) name.now }
     requires opened { (before : Option (List Event))
         × Does (Opens name.now (F.Reader.left reader.old)) before (F.told folder.old) }
-    ensures outcome { IsOfOpening (asked_output options.now) name.now result }
+    ensures outcome { IsOfOpening (asked_output context.now.options.now) name.now result }
     ensures events { (before : Option (List Event))
         → Does (Opens name.now (F.Reader.left reader.old)) before (F.told folder.old)
-        → Does (OpeningRead key.now options.now.max_bytes (asked_label options.now) output.now name.now result) before
-        (F.told folder.new) }
+        → Does (OpeningRead context.now.key.now context.now.options.now.max_bytes (asked_label context.now.options.now)
+        output.now name.now result) before (F.told folder.new) }
     ensures count { IsCounted (F.told folder.new) (F.Reader.failures reader.new)
         (counted (reading_failed result) (F.Reader.failures reader.old)) }
 {
+    let FilesContext {
+        alloc,
+        key,
+        options,
+    } = *context;
     let most = options.max_bytes;
     let header = match check_labelled(rt, alloc, key, reader, most, workers, options.label) {
         Ok((header, _)) => header,
@@ -106,28 +110,30 @@ fn open_again<'b, 'a, T: Threads + Clock + Sync, F: OpeningFolder>(
 // Opens a file that can be read only once: its plaintext is in memory until its whole container was checked.
 fn open_once<'b, 'a, T: Threads + Clock + Sync, F: OpeningFolder>(
     rt: &T,
-    alloc: Global,
-    key: &'a Key,
+    context: &FilesContext<'_, 'a>,
     folder: &mut F,
     reader: &mut F::Reader,
     name: &str,
     output: &str,
-    options: &OpenOptions,
     workers: Workers<'b, 'a>,
 ) -> FileOutcome
-    requires range { AreInRange options.now }
     requires workers { AreWorkers workers }
-    requires name { IsOpenable (asked_output options.now) name.now }
+    requires name { IsOpenable (asked_output context.now.options.now) name.now }
     requires opened { (before : Option (List Event))
         × Does (Opens name.now (F.Reader.left reader.old)) before (F.told folder.old) }
-    ensures outcome { IsOfOpening (asked_output options.now) name.now result }
+    ensures outcome { IsOfOpening (asked_output context.now.options.now) name.now result }
     ensures events { (before : Option (List Event))
         → Does (Opens name.now (F.Reader.left reader.old)) before (F.told folder.old)
-        → Does (OpeningRead key.now options.now.max_bytes (asked_label options.now) output.now name.now result) before
-        (F.told folder.new) }
+        → Does (OpeningRead context.now.key.now context.now.options.now.max_bytes (asked_label context.now.options.now)
+        output.now name.now result) before (F.told folder.new) }
     ensures count { IsCounted (F.told folder.new) (F.Reader.failures reader.new)
         (counted (reading_failed result) (F.Reader.failures reader.old)) }
 {
+    let FilesContext {
+        alloc,
+        key,
+        options,
+    } = *context;
     let most = options.max_bytes;
     let plain = match read_labelled(rt, alloc, key, reader, most, workers, options.label) {
         Ok(plain) => plain,
@@ -147,36 +153,29 @@ fn open_once<'b, 'a, T: Threads + Clock + Sync, F: OpeningFolder>(
 // Opens a file that is read, in one of the two ways.
 fn open_read<'b, 'a, T: Threads + Clock + Sync, F: OpeningFolder>(
     rt: &T,
-    alloc: Global,
-    key: &'a Key,
+    context: &FilesContext<'_, 'a>,
     folder: &mut F,
     reader: &mut F::Reader,
     name: &str,
     output: &str,
-    options: &OpenOptions,
     workers: Workers<'b, 'a>,
 ) -> FileOutcome
-    requires range { AreInRange options.now }
     requires workers { AreWorkers workers }
-    requires name { IsOpenable (asked_output options.now) name.now }
+    requires name { IsOpenable (asked_output context.now.options.now) name.now }
     requires opened { (before : Option (List Event))
         × Does (Opens name.now (F.Reader.left reader.old)) before (F.told folder.old) }
-    ensures outcome { IsOfOpening (asked_output options.now) name.now result }
+    ensures outcome { IsOfOpening (asked_output context.now.options.now) name.now result }
     ensures events { (before : Option (List Event))
         → Does (Opens name.now (F.Reader.left reader.old)) before (F.told folder.old)
-        → Does (OpeningRead key.now options.now.max_bytes (asked_label options.now) output.now name.now result) before
-        (F.told folder.new) }
+        → Does (OpeningRead context.now.key.now context.now.options.now.max_bytes (asked_label context.now.options.now)
+        output.now name.now result) before (F.told folder.new) }
     ensures count { IsCounted (F.told folder.new) (F.Reader.failures reader.new)
         (counted (reading_failed result) (F.Reader.failures reader.old)) }
 {
     if folder.can_repeat(reader) {
-        open_again(
-            rt, alloc, key, folder, reader, name, output, options, workers,
-        )
+        open_again(rt, context, folder, reader, name, output, workers)
     } else {
-        open_once(
-            rt, alloc, key, folder, reader, name, output, options, workers,
-        )
+        open_once(rt, context, folder, reader, name, output, workers)
     }
 }
 
@@ -205,212 +204,169 @@ fn begin<F: OpeningFolder>(
     }
 }
 
-// Opens a file that was opened for reading: checks its whole container, then creates its output, writes the plaintext and
-// finishes the output. At last the file is closed.
+// Opens a file that was opened for reading: checks its whole container, then creates its output, writes the plaintext
+// and finishes the output. At last the file is closed.
 fn open_opened<'b, 'a, T: Threads + Clock + Sync, F: OpeningFolder>(
     rt: &T,
-    alloc: Global,
-    key: &'a Key,
+    context: &FilesContext<'_, 'a>,
     folder: &mut F,
-    options: &OpenOptions,
     reader: F::Reader,
     name: &str,
     workers: Workers<'b, 'a>,
 ) -> FileOutcome
-    requires range { AreInRange options.now }
     requires workers { AreWorkers workers }
-    requires opens { IsOpenable (asked_output options.now) name.now }
+    requires opens { IsOpenable (asked_output context.now.options.now) name.now }
     requires opened { (before : Option (List Event))
         × Does (Opens name.now (F.Reader.left reader)) before (F.told folder.old) }
     requires count { IsCounted (F.told folder.old) (F.Reader.failures reader) (Some 0) }
-    ensures fits { IsOfOpening (asked_output options.now) name.now result }
+    ensures fits { IsOfOpening (asked_output context.now.options.now) name.now result }
     ensures does { (before : Option (List Event))
         → Does (Opens name.now (F.Reader.left reader)) before (F.told folder.old)
-        → Does (Opening key.now options.now.max_bytes (asked_label options.now)
-        (output_for (asked_output options.now) name.now) name.now result) before (F.told folder.new) }
+        → Does (Opening context.now.key.now context.now.options.now.max_bytes (asked_label context.now.options.now)
+        (output_for (asked_output context.now.options.now) name.now) name.now result) before (F.told folder.new) }
 {
-    let Some(output) = output_name(name, options.to) else {
+    let Some(output) = output_name(name, context.options.to) else {
         unreachable!();
     };
     let mut reader = reader;
-    let outcome = open_read(
-        rt,
-        alloc,
-        key,
-        folder,
-        &mut reader,
-        name,
-        output,
-        options,
-        workers,
-    );
+    let outcome = open_read(rt, context, folder, &mut reader, name, output, workers);
     folder.close(name, reader);
     outcome
 }
 
-// Opens one file, with workers that run.
+// Opens one file, with these workers.
 fn open_file<'b, 'a, T: Threads + Clock + Sync, F: OpeningFolder>(
     rt: &T,
-    alloc: Global,
-    key: &'a Key,
+    context: &FilesContext<'_, 'a>,
     folder: &mut F,
     name: &str,
     workers: Workers<'b, 'a>,
-    options: &OpenOptions,
 ) -> FileOutcome
-    requires range { AreInRange options.now }
     requires workers { AreWorkers workers }
-    ensures fits { IsOfOpening (asked_output options.now) name.now result }
-    ensures does { Does (Opening key.now options.now.max_bytes (asked_label options.now)
-        (output_for (asked_output options.now) name.now) name.now result) (F.told folder.old) (F.told folder.new) }
+    ensures fits { IsOfOpening (asked_output context.now.options.now) name.now result }
+    ensures does { Does (Opening context.now.key.now context.now.options.now.max_bytes
+        (asked_label context.now.options.now) (output_for (asked_output context.now.options.now) name.now) name.now
+        result) (F.told folder.old) (F.told folder.new) }
 {
-    match begin(folder, name, options) {
+    match begin(folder, name, context.options) {
         Ok(reader) => {
             let most = workers_for(folder.length(&reader), workers.count());
-            open_opened(
-                rt,
-                alloc,
-                key,
-                folder,
-                options,
-                reader,
-                name,
-                workers.at_most(most),
-            )
+            open_opened(rt, context, folder, reader, name, workers.at_most(most))
         }
         Err(outcome) => outcome,
     }
 }
 
-// Opens the files from number `next` on, with workers that run. Returns the status.
+// Opens the files from number `next` on, with these workers. Returns the status.
 fn open_rest<'b, 'a, T: Threads + Clock + Sync, F: OpeningFolder, L: Report>(
     rt: &T,
-    alloc: Global,
-    key: &'a Key,
+    context: &FilesContext<'_, 'a>,
     folder: &mut F,
     workers: Workers<'b, 'a>,
-    options: &OpenOptions,
     lines: &mut L,
     next: usize,
     status: u8,
 ) -> u8
-    requires range { AreInRange options.now }
     requires workers { AreWorkers workers }
-    requires next { next ≤ length options.now.files.now }
+    requires next { next ≤ length context.now.options.now.files.now }
     ensures { (old : Printed) (told : Option (List Event))
-        → AreOpened key.now options.now next status old
+        → AreOpened context.now.key.now context.now.options.now next status old
         (printed (L.taken lines.old) (L.failures lines.old)) told (F.told folder.old)
-        → AreOpened key.now options.now (length options.now.files.now) result old
+        → AreOpened context.now.key.now context.now.options.now (length context.now.options.now.files.now) result old
         (printed (L.taken lines.new) (L.failures lines.new)) told (F.told folder.new) }
 {
+    let files = context.options.files;
     let mut status = status;
-    'files: for number in next..options.files.len() {
-        let name = options.files[number];
-        let outcome = open_file(rt, alloc, key, folder, name, workers, options);
-        status = tell(alloc, lines, status, name, outcome);
+    'files: for number in next..files.len() {
+        let name = files[number];
+        let outcome = open_file(rt, context, folder, name, workers);
+        status = tell(context.alloc, lines, status, name, outcome);
     }
     status
 }
 
-// Opens the file of this number, which this reader has open, and then those after it, with workers that run. Returns the
+// Opens the file of this number, which this reader has open, and then those after it, with these workers. Returns the
 // status.
 fn open_from<'b, 'a, T: Threads + Clock + Sync, F: OpeningFolder, L: Report>(
     rt: &T,
-    alloc: Global,
-    key: &'a Key,
+    context: &FilesContext<'_, 'a>,
     folder: &mut F,
     workers: Workers<'b, 'a>,
-    options: &OpenOptions,
     lines: &mut L,
     number: usize,
     status: u8,
     name: &str,
     reader: F::Reader,
 ) -> u8
-    requires range { AreInRange options.now }
     requires workers { AreWorkers workers }
-    requires name { IsFileAt options.now number name.now }
-    requires opens { IsOpenable (asked_output options.now) name.now }
+    requires name { IsFileAt context.now.options.now number name.now }
+    requires opens { IsOpenable (asked_output context.now.options.now) name.now }
     requires opened { (before : Option (List Event))
         × Does (Opens name.now (F.Reader.left reader)) before (F.told folder.old) }
     requires count { IsCounted (F.told folder.old) (F.Reader.failures reader) (Some 0) }
     ensures { (old : Printed) (told : Option (List Event)) (before : Option (List Event))
-        → AreOpened key.now options.now number status old
+        → AreOpened context.now.key.now context.now.options.now number status old
         (printed (L.taken lines.old) (L.failures lines.old)) told before
         → Does (Opens name.now (F.Reader.left reader)) before (F.told folder.old)
-        → AreOpened key.now options.now (length options.now.files.now) result old
+        → AreOpened context.now.key.now context.now.options.now (length context.now.options.now.files.now) result old
         (printed (L.taken lines.new) (L.failures lines.new)) told (F.told folder.new) }
 {
     let most = workers_for(folder.length(&reader), workers.count());
-    let outcome = open_opened(
-        rt,
-        alloc,
-        key,
-        folder,
-        options,
-        reader,
-        name,
-        workers.at_most(most),
-    );
-    let status = tell(alloc, lines, status, name, outcome);
-    open_rest(
-        rt,
-        alloc,
-        key,
-        folder,
-        workers,
-        options,
-        lines,
-        number + 1,
-        status,
-    )
+    let outcome = open_opened(rt, context, folder, reader, name, workers.at_most(most));
+    let status = tell(context.alloc, lines, status, name, outcome);
+    open_rest(rt, context, folder, workers, lines, number + 1, status)
 }
 
-// The same, and starts the workers of these letter boxes first. Then it frees the reserve.
+// The same with `count` workers, which are started first. Where there is no room for that, this thread is alone.
 fn open_beside<'a, T: Threads + Clock + Sync, F: OpeningFolder, L: Report>(
     rt: &T,
-    alloc: Global,
-    key: &'a Key,
+    context: &FilesContext<'_, 'a>,
     folder: &mut F,
-    boxes: &[LetterBox<'a>],
-    options: &OpenOptions,
     lines: &mut L,
     number: usize,
     status: u8,
     name: &str,
     reader: F::Reader,
-    reserve: Vec<u8>,
+    count: u32,
 ) -> u8
-    requires range { AreInRange options.now }
-    requires boxes { length boxes.now < MAX_WORKERS }
-    requires name { IsFileAt options.now number name.now }
-    requires opens { IsOpenable (asked_output options.now) name.now }
+    requires some { (0 < count) × (count ≤ MAX_WORKERS) }
+    requires name { IsFileAt context.now.options.now number name.now }
+    requires opens { IsOpenable (asked_output context.now.options.now) name.now }
     requires opened { (before : Option (List Event))
         × Does (Opens name.now (F.Reader.left reader)) before (F.told folder.old) }
     requires count { IsCounted (F.told folder.old) (F.Reader.failures reader) (Some 0) }
     ensures { (old : Printed) (told : Option (List Event)) (before : Option (List Event))
-        → AreOpened key.now options.now number status old
+        → AreOpened context.now.key.now context.now.options.now number status old
         (printed (L.taken lines.old) (L.failures lines.old)) told before
         → Does (Opens name.now (F.Reader.left reader)) before (F.told folder.old)
-        → AreOpened key.now options.now (length options.now.files.now) result old
+        → AreOpened context.now.key.now context.now.options.now (length context.now.options.now.files.now) result old
         (printed (L.taken lines.new) (L.failures lines.new)) told (F.told folder.new) }
 {
+    let alloc = context.alloc;
+    let Some(reserve) = room_to_start(alloc, count) else {
+        let workers = Workers::ToStart(1);
+        return open_from(
+            rt, context, folder, workers, lines, number, status, name, reader,
+        );
+    };
+    let boxes = boxes_beside(alloc, count);
+    let boxes = boxes.as_slice();
     let mut kept = Some(reader);
     let mut reserve = Some(reserve);
     let mut chore = || -> u8
-        requires range { AreInRange options.now }
         requires boxes { length boxes.now < MAX_WORKERS }
-        requires name { IsFileAt options.now number name.now }
-        requires opens { IsOpenable (asked_output options.now) name.now }
+        requires name { IsFileAt context.now.options.now number name.now }
+        requires opens { IsOpenable (asked_output context.now.options.now) name.now }
         requires opened { (reader : F.Reader) × (before : Option (List Event)) × (kept ≡ Some reader)
             × Does (Opens name.now (F.Reader.left reader)) before (F.told folder.now)
             × IsCounted (F.told folder.now) (F.Reader.failures reader) (Some 0) }
         ensures { (reader : F.Reader) (old : Printed) (told : Option (List Event))
             (before : Option (List Event)) → kept.entry ≡ Some reader
-            → AreOpened key.entry.now options.entry.now number status old
+            → AreOpened context.entry.now.key.now context.entry.now.options.now number status old
             (printed (L.taken lines.entry.now) (L.failures lines.entry.now)) told before
             → Does (Opens name.entry.now (F.Reader.left reader)) before (F.told folder.entry.now)
-            → AreOpened key.entry.now options.entry.now (length options.entry.now.files.now) result old
+            → AreOpened context.entry.now.key.now context.entry.now.options.now
+            (length context.entry.now.options.now.files.now) result old
             (printed (L.taken lines.exit.now) (L.failures lines.exit.now)) told (F.told folder.exit.now) }
     {
         let Some(reader) = kept.take() else {
@@ -419,7 +375,7 @@ fn open_beside<'a, T: Threads + Clock + Sync, F: OpeningFolder, L: Report>(
         reserve = None;
         let workers = Workers::Running(boxes);
         open_from(
-            rt, alloc, key, folder, workers, options, lines, number, status, name, reader,
+            rt, context, folder, workers, lines, number, status, name, reader,
         )
     };
     with_workers(rt, alloc, boxes, &Free, &mut chore)
@@ -456,6 +412,11 @@ pub fn open_all<
         (F.told folder.old) (F.told folder.new) }
     ensures others { (out.new.faults ≡ out.old.faults) × (out.new.journal ≡ out.old.journal) }
 {
+    let context = FilesContext {
+        alloc,
+        key,
+        options,
+    };
     let lines = &mut out.lines;
     let mut status = 0;
     'files: for number in 0..options.files.len() {
@@ -465,16 +426,13 @@ pub fn open_all<
                 let bytes = folder.length(&reader);
                 let is_last = number + 1 == options.files.len();
                 let count = workers_from(bytes, options.workers, is_last);
-                if let Some(reserve) = room_to_start(alloc, count) {
-                    let boxes = boxes_beside(alloc, count);
-                    let boxes = boxes.as_slice();
+                if count > 1 {
                     return open_beside(
-                        rt, alloc, key, folder, boxes, options, lines, number, status, name,
-                        reader, reserve,
+                        rt, &context, folder, lines, number, status, name, reader, count,
                     );
                 }
                 let workers = Workers::ToStart(workers_for(bytes, options.workers));
-                open_opened(rt, alloc, key, folder, options, reader, name, workers)
+                open_opened(rt, &context, folder, reader, name, workers)
             }
             Err(outcome) => outcome,
         };

@@ -57,13 +57,10 @@ pub(crate) fn workers_from(bytes: Option<u64>, workers: u32, is_last: bool) -> u
 }
 
 /// Returns the room that is held free while this many workers are started, with the caller's thread. `None` if there
-/// isn't as much, or it is alone: then none are started.
+/// isn't as much: then that goes on alone, as the room of a reading would be refused beside their stacks.
 pub(crate) fn room_to_start(alloc: Global, workers: u32) -> Option<Vec<u8>>
-    requires { (0 < workers) × (workers ≤ MAX_WORKERS) }
+    requires { workers ≤ MAX_WORKERS }
 {
-    if workers == 1 {
-        return None;
-    }
     Vec::with_capacity(alloc, workers as usize * RESERVE).ok()
 }
 

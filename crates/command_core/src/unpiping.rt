@@ -113,8 +113,8 @@ fn unpipe_read<'b, 'a, T: Threads + Clock + Sync, F: Folder, W: OpeningStream + 
     }
 }
 
-// Unpipes what is read of a file, with workers that last for both readings. Where its length isn't known each reading
-// starts its own, as nothing may come of it for long. The reserve is freed once the workers were started.
+// Unpipes what is read of a file, with workers that last for both readings; alone where there is no room to start them.
+// Where the file's length isn't known each reading starts its own, as nothing may come of it for long.
 fn unpipe_beside<T: Threads + Clock + Sync, F: Folder, W: OpeningStream + Drop>(
     rt: &T,
     alloc: Global,
@@ -139,8 +139,14 @@ fn unpipe_beside<T: Threads + Clock + Sync, F: Folder, W: OpeningStream + Drop>(
 {
     let bytes = folder.length(reader);
     let count = workers_from(bytes, options.workers, true);
-    let Some(reserve) = room_to_start(alloc, count) else {
+    if count == 1 {
         let workers = Workers::ToStart(workers_for(bytes, options.workers));
+        return unpipe_read(
+            rt, alloc, key, folder, reader, name, stream, options, workers,
+        );
+    }
+    let Some(reserve) = room_to_start(alloc, count) else {
+        let workers = Workers::ToStart(1);
         return unpipe_read(
             rt, alloc, key, folder, reader, name, stream, options, workers,
         );

@@ -1,12 +1,13 @@
-//! Verifying: each file in turn, with its line on standard output. No file is created. Workers last as those of `opening`.
+//! Verifying: each file in turn, with its line on standard output. No file is created. Workers are those of `opening`.
 ghost use Rattle.std.specs.Prelude.{◌≡◌, ℕ, ◌+◌, ◌<◌, ◌≤◌, List, [], ◌∷◌, ◌++◌, length, map, take, Option, Some, option_map};
 ghost use Rattle.std.specs.Prelude.{IfOk, IfErr};
 ghost use Rattle.opening_core.specs.Workers.{AreWorkers};
 ghost use Rattle.command_core.specs.Trace.{Does, Event, IsCounted, Opens};
 ghost use Rattle.command_core.specs.Turns.{AreVerified, IsFileAt, Printed, printed};
-ghost use Rattle.command_core.specs.Work.{AreInRange, AreWorked, IsOfVerifying, Verifying, asked_label};
+ghost use Rattle.command_core.specs.Work.{AreWorked, IsOfVerifying, Verifying, asked_label};
 
 use crate::commands::{MAX_OPENED_BYTES, OpenOptions, Outs, tell};
+use crate::context::FilesContext;
 use crate::facts::Facts;
 use crate::folder::Folder;
 use crate::line::{FileFault, FileOutcome};
@@ -18,30 +19,32 @@ use opening_core::{Workers, boxes_beside};
 use std::alloc::Global;
 use std::thread::Threads;
 use std::time::Clock;
-use worker_core::{LetterBox, with_workers};
+use worker_core::with_workers;
 
 // Checks the whole container of a file that was opened for reading, and closes it.
 fn verify_opened<'b, 'a, T: Threads + Clock + Sync, F: Folder>(
     rt: &T,
-    alloc: Global,
-    key: &'a Key,
+    context: &FilesContext<'_, 'a>,
     folder: &mut F,
-    options: &OpenOptions,
     reader: F::Reader,
     name: &str,
     workers: Workers<'b, 'a>,
 ) -> FileOutcome
-    requires range { AreInRange options.now }
     requires workers { AreWorkers workers }
     requires opened { (before : Option (List Event))
         × Does (Opens name.now (F.Reader.left reader)) before (F.told folder.old) }
     requires count { IsCounted (F.told folder.old) (F.Reader.failures reader) (Some 0) }
-    ensures fits { IsOfVerifying options.now.show result }
+    ensures fits { IsOfVerifying context.now.options.now.show result }
     ensures does { (before : Option (List Event))
         → Does (Opens name.now (F.Reader.left reader)) before (F.told folder.old)
-        → Does (Verifying key.now options.now.max_bytes (asked_label options.now) name.now result) before
-        (F.told folder.new) }
+        → Does (Verifying context.now.key.now context.now.options.now.max_bytes (asked_label context.now.options.now)
+        name.now result) before (F.told folder.new) }
 {
+    let FilesContext {
+        alloc,
+        key,
+        options,
+    } = *context;
     let mut reader = reader;
     let most = options.max_bytes;
     let checked = check_labelled(rt, alloc, key, &mut reader, most, workers, options.label);
@@ -56,166 +59,135 @@ fn verify_opened<'b, 'a, T: Threads + Clock + Sync, F: Folder>(
     }
 }
 
-// Verifies one file, with workers that run.
+// Verifies one file, with these workers.
 fn verify_file<'b, 'a, T: Threads + Clock + Sync, F: Folder>(
     rt: &T,
-    alloc: Global,
-    key: &'a Key,
+    context: &FilesContext<'_, 'a>,
     folder: &mut F,
     name: &str,
     workers: Workers<'b, 'a>,
-    options: &OpenOptions,
 ) -> FileOutcome
-    requires range { AreInRange options.now }
     requires workers { AreWorkers workers }
-    ensures fits { IsOfVerifying options.now.show result }
-    ensures does { Does (Verifying key.now options.now.max_bytes (asked_label options.now) name.now result)
-        (F.told folder.old) (F.told folder.new) }
+    ensures fits { IsOfVerifying context.now.options.now.show result }
+    ensures does { Does (Verifying context.now.key.now context.now.options.now.max_bytes
+        (asked_label context.now.options.now) name.now result) (F.told folder.old) (F.told folder.new) }
 {
     match folder.open(name) {
         Ok(reader) => {
             let most = workers_for(folder.length(&reader), workers.count());
-            verify_opened(
-                rt,
-                alloc,
-                key,
-                folder,
-                options,
-                reader,
-                name,
-                workers.at_most(most),
-            )
+            verify_opened(rt, context, folder, reader, name, workers.at_most(most))
         }
         Err(_) => FileOutcome::Failed(FileFault::CannotOpen),
     }
 }
 
-// Verifies the files from number `next` on, with workers that run. Returns the status.
+// Verifies the files from number `next` on, with these workers. Returns the status.
 fn verify_rest<'b, 'a, T: Threads + Clock + Sync, F: Folder, L: Report>(
     rt: &T,
-    alloc: Global,
-    key: &'a Key,
+    context: &FilesContext<'_, 'a>,
     folder: &mut F,
     workers: Workers<'b, 'a>,
-    options: &OpenOptions,
     lines: &mut L,
     next: usize,
     status: u8,
 ) -> u8
-    requires range { AreInRange options.now }
     requires workers { AreWorkers workers }
-    requires next { next ≤ length options.now.files.now }
+    requires next { next ≤ length context.now.options.now.files.now }
     ensures { (old : Printed) (told : Option (List Event))
-        → AreVerified key.now options.now next status old
+        → AreVerified context.now.key.now context.now.options.now next status old
         (printed (L.taken lines.old) (L.failures lines.old)) told (F.told folder.old)
-        → AreVerified key.now options.now (length options.now.files.now) result old
+        → AreVerified context.now.key.now context.now.options.now (length context.now.options.now.files.now) result old
         (printed (L.taken lines.new) (L.failures lines.new)) told (F.told folder.new) }
 {
+    let files = context.options.files;
     let mut status = status;
-    'files: for number in next..options.files.len() {
-        let name = options.files[number];
-        let outcome = verify_file(rt, alloc, key, folder, name, workers, options);
-        status = tell(alloc, lines, status, name, outcome);
+    'files: for number in next..files.len() {
+        let name = files[number];
+        let outcome = verify_file(rt, context, folder, name, workers);
+        status = tell(context.alloc, lines, status, name, outcome);
     }
     status
 }
 
-// Verifies the file of this number, which this reader has open, and then those after it, with workers that run. Returns the
-// status.
+// Verifies the file of this number, which this reader has open, and then those after it, with these workers. Returns
+// the status.
 fn verify_from<'b, 'a, T: Threads + Clock + Sync, F: Folder, L: Report>(
     rt: &T,
-    alloc: Global,
-    key: &'a Key,
+    context: &FilesContext<'_, 'a>,
     folder: &mut F,
     workers: Workers<'b, 'a>,
-    options: &OpenOptions,
     lines: &mut L,
     number: usize,
     status: u8,
     name: &str,
     reader: F::Reader,
 ) -> u8
-    requires range { AreInRange options.now }
     requires workers { AreWorkers workers }
-    requires name { IsFileAt options.now number name.now }
+    requires name { IsFileAt context.now.options.now number name.now }
     requires opened { (before : Option (List Event))
         × Does (Opens name.now (F.Reader.left reader)) before (F.told folder.old) }
     requires count { IsCounted (F.told folder.old) (F.Reader.failures reader) (Some 0) }
     ensures { (old : Printed) (told : Option (List Event)) (before : Option (List Event))
-        → AreVerified key.now options.now number status old
+        → AreVerified context.now.key.now context.now.options.now number status old
         (printed (L.taken lines.old) (L.failures lines.old)) told before
         → Does (Opens name.now (F.Reader.left reader)) before (F.told folder.old)
-        → AreVerified key.now options.now (length options.now.files.now) result old
+        → AreVerified context.now.key.now context.now.options.now (length context.now.options.now.files.now) result old
         (printed (L.taken lines.new) (L.failures lines.new)) told (F.told folder.new) }
 {
     let most = workers_for(folder.length(&reader), workers.count());
-    let outcome = verify_opened(
-        rt,
-        alloc,
-        key,
-        folder,
-        options,
-        reader,
-        name,
-        workers.at_most(most),
-    );
-    let status = tell(alloc, lines, status, name, outcome);
-    verify_rest(
-        rt,
-        alloc,
-        key,
-        folder,
-        workers,
-        options,
-        lines,
-        number + 1,
-        status,
-    )
+    let outcome = verify_opened(rt, context, folder, reader, name, workers.at_most(most));
+    let status = tell(context.alloc, lines, status, name, outcome);
+    verify_rest(rt, context, folder, workers, lines, number + 1, status)
 }
 
-// The same, and starts the workers of these letter boxes first. Then it frees the reserve.
+// The same with `count` workers, which are started first. Where there is no room for that, this thread is alone.
 fn verify_beside<'a, T: Threads + Clock + Sync, F: Folder, L: Report>(
     rt: &T,
-    alloc: Global,
-    key: &'a Key,
+    context: &FilesContext<'_, 'a>,
     folder: &mut F,
-    boxes: &[LetterBox<'a>],
-    options: &OpenOptions,
     lines: &mut L,
     number: usize,
     status: u8,
     name: &str,
     reader: F::Reader,
-    reserve: Vec<u8>,
+    count: u32,
 ) -> u8
-    requires range { AreInRange options.now }
-    requires boxes { length boxes.now < MAX_WORKERS }
-    requires name { IsFileAt options.now number name.now }
+    requires some { (0 < count) × (count ≤ MAX_WORKERS) }
+    requires name { IsFileAt context.now.options.now number name.now }
     requires opened { (before : Option (List Event))
         × Does (Opens name.now (F.Reader.left reader)) before (F.told folder.old) }
     requires count { IsCounted (F.told folder.old) (F.Reader.failures reader) (Some 0) }
     ensures { (old : Printed) (told : Option (List Event)) (before : Option (List Event))
-        → AreVerified key.now options.now number status old
+        → AreVerified context.now.key.now context.now.options.now number status old
         (printed (L.taken lines.old) (L.failures lines.old)) told before
         → Does (Opens name.now (F.Reader.left reader)) before (F.told folder.old)
-        → AreVerified key.now options.now (length options.now.files.now) result old
+        → AreVerified context.now.key.now context.now.options.now (length context.now.options.now.files.now) result old
         (printed (L.taken lines.new) (L.failures lines.new)) told (F.told folder.new) }
 {
+    let alloc = context.alloc;
+    let Some(reserve) = room_to_start(alloc, count) else {
+        let workers = Workers::ToStart(1);
+        return verify_from(
+            rt, context, folder, workers, lines, number, status, name, reader,
+        );
+    };
+    let boxes = boxes_beside(alloc, count);
+    let boxes = boxes.as_slice();
     let mut kept = Some(reader);
     let mut reserve = Some(reserve);
     let mut chore = || -> u8
-        requires range { AreInRange options.now }
         requires boxes { length boxes.now < MAX_WORKERS }
-        requires name { IsFileAt options.now number name.now }
+        requires name { IsFileAt context.now.options.now number name.now }
         requires opened { (reader : F.Reader) × (before : Option (List Event)) × (kept ≡ Some reader)
             × Does (Opens name.now (F.Reader.left reader)) before (F.told folder.now)
             × IsCounted (F.told folder.now) (F.Reader.failures reader) (Some 0) }
         ensures { (reader : F.Reader) (old : Printed) (told : Option (List Event))
             (before : Option (List Event)) → kept.entry ≡ Some reader
-            → AreVerified key.entry.now options.entry.now number status old
+            → AreVerified context.entry.now.key.now context.entry.now.options.now number status old
             (printed (L.taken lines.entry.now) (L.failures lines.entry.now)) told before
             → Does (Opens name.entry.now (F.Reader.left reader)) before (F.told folder.entry.now)
-            → AreVerified key.entry.now options.entry.now (length options.entry.now.files.now) result old
+            → AreVerified context.entry.now.key.now context.entry.now.options.now
+            (length context.entry.now.options.now.files.now) result old
             (printed (L.taken lines.exit.now) (L.failures lines.exit.now)) told (F.told folder.exit.now) }
     {
         let Some(reader) = kept.take() else {
@@ -224,7 +196,7 @@ fn verify_beside<'a, T: Threads + Clock + Sync, F: Folder, L: Report>(
         reserve = None;
         let workers = Workers::Running(boxes);
         verify_from(
-            rt, alloc, key, folder, workers, options, lines, number, status, name, reader,
+            rt, context, folder, workers, lines, number, status, name, reader,
         )
     };
     with_workers(rt, alloc, boxes, &Free, &mut chore)
@@ -258,6 +230,11 @@ pub fn verify_all<
         (F.told folder.old) (F.told folder.new) }
     ensures others { (out.new.faults ≡ out.old.faults) × (out.new.journal ≡ out.old.journal) }
 {
+    let context = FilesContext {
+        alloc,
+        key,
+        options,
+    };
     let lines = &mut out.lines;
     let mut status = 0;
     'files: for number in 0..options.files.len() {
@@ -267,16 +244,13 @@ pub fn verify_all<
                 let bytes = folder.length(&reader);
                 let is_last = number + 1 == options.files.len();
                 let count = workers_from(bytes, options.workers, is_last);
-                if let Some(reserve) = room_to_start(alloc, count) {
-                    let boxes = boxes_beside(alloc, count);
-                    let boxes = boxes.as_slice();
+                if count > 1 {
                     return verify_beside(
-                        rt, alloc, key, folder, boxes, options, lines, number, status, name,
-                        reader, reserve,
+                        rt, &context, folder, lines, number, status, name, reader, count,
                     );
                 }
                 let workers = Workers::ToStart(workers_for(bytes, options.workers));
-                verify_opened(rt, alloc, key, folder, options, reader, name, workers)
+                verify_opened(rt, &context, folder, reader, name, workers)
             }
             Err(_) => FileOutcome::Failed(FileFault::CannotOpen),
         };

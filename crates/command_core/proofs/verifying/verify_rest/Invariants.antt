@@ -7,7 +7,7 @@ use Rattle.command_core.proofs.verifying.verify_rest.Given as goal
 abbrev pub invariant-files : goal.invariant-files
 invariant-files g l =
     (old : Printed) (told : Option (List Event))
-    → AreVerified l.key l.options l.next l.initial.status old
+    → AreVerified l.context.key.now l.context.options.now l.next l.initial.status old
     (printed (g.L.Report.taken l.initial.lines) (g.L.Report.failures l.initial.lines)) told (g.F.Folder.told l.initial.folder)
-    → AreVerified l.key l.options l.number l.status old
+    → AreVerified l.context.key.now l.context.options.now l.number l.status old
     (printed (g.L.Report.taken l.lines) (g.L.Report.failures l.lines)) told (g.F.Folder.told l.folder)
