@@ -2,11 +2,10 @@
 use Rattle.std.proofs.Common.{◌≡◌, ◌⊎◌, inl, inr, ℕ, false, List, [], ◌++◌, Option, None, Some, refl, sym, subst, arith}
 use Rattle.std.specs.Prelude.{IfSome, option_map}
 use Rattle.std.proofs.Math.Logic.{∥∥₁_map}
-use Rattle.container_core.specs.Shape.{ShapeView}
 use Rattle.output_core.specs.Bounds.{Admits, Allows}
-use Rattle.folder_core.specs.Record.{Container, Entry, Holds, IsSoundWith, KeyedRange, Nothing, Plain, RunRecord, State, begins, bound_in, bound_of, content_at, content_in}
-use Rattle.folder_core.specs.Changes.{Becomes, IsNew, MayBegin, MayOpen, allowed, closed_at, with_entry}
-use Rattle.folder_core.proofs.Sound.{allows_none, closed_kept, container_kept, entry_kept, plain_kept, write_kept}
+use Rattle.folder_core.specs.Record.{Content, Entry, Event, Happened, Holds, IsSoundWith, KeyedRange, Nothing, RunRecord, State, begins, bound_in, bound_of, content_at, content_in}
+use Rattle.folder_core.specs.Changes.{Becomes, IsNew, MayHold, allowed, closed_at, with_entry}
+use Rattle.folder_core.proofs.Sound.{allows_none, closed_kept, entry_kept, event_kept, held_kept, write_kept}
 
 abbrev pub Keeps : Option RunRecord → List ℕ → Type 0
 Keeps rest taken = ∥ IsSoundWith rest (Some taken) ∥₁
@@ -47,36 +46,33 @@ entry_call e before after held taken none holds apart is same sound =
     (becomes_kept (with_entry e) before after held held is
     (λ r known both. entry_kept r e (Some held) none (holds r.under r.entries) apart both) sound)
 
-pub container_call : (before after : Option RunRecord) (held taken : List ℕ) (n number : ℕ) (shape : ShapeView)
-    → IfSome before (MayBegin n number shape) → Becomes (allowed n (Container number shape)) before after → taken ≡ []
-    → Keeps before held → Keeps after taken
-container_call before after held taken n number shape may is none sound =
-    subst (λ t. Keeps after t) (sym none)
-    (becomes_kept (allowed n (Container number shape)) before after held [] is
-    (λ r known both.
-    container_kept r n number shape (Some held) (subst (λ x. IfSome x (MayBegin n number shape)) known may) both) sound)
+pub event_call : (event : Event) (before after : Option RunRecord) (held taken : List ℕ)
+    → Becomes (with_entry (Happened event)) before after → taken ≡ held → Keeps before held → Keeps after taken
+event_call event before after held taken is same sound =
+    subst (λ t. Keeps after t) (sym same)
+    (becomes_kept (with_entry (Happened event)) before after held held is (λ r known both. event_kept r event (Some held) both) sound)
 
-pub plain_call : (before after : Option RunRecord) (held taken : List ℕ) (n : ℕ) (key plain : List ℕ)
-    → IfSome before (MayOpen n key plain) → Becomes (allowed n (Plain key plain)) before after → taken ≡ []
+-- an output was taken in hand
+pub hold_call : (before after : Option RunRecord) (held taken : List ℕ) (n : ℕ) (content : Content)
+    → IfSome before (MayHold n content) → Becomes (allowed n content) before after → taken ≡ []
     → Keeps before held → Keeps after taken
-plain_call before after held taken n key plain may is none sound =
+hold_call before after held taken n content may is none sound =
     subst (λ t. Keeps after t) (sym none)
-    (becomes_kept (allowed n (Plain key plain)) before after held [] is
-    (λ r known both.
-    plain_kept r n key plain (Some held) (subst (λ x. IfSome x (MayOpen n key plain)) known may) both) sound)
+    (becomes_kept (allowed n content) before after held [] is
+    (λ r known both. held_kept r n content (Some held) (subst (λ x. IfSome x (MayHold n content)) known may) both) sound)
 
 -- the output in hand was closed
-pub close_call : (before after : Option RunRecord) (held taken : List ℕ) (n : ℕ) (state : State)
-    → IfSome before (λ r. r.in_hand ≡ Some n) → Becomes (closed_at n state held) before after → taken ≡ []
+pub close_call : (before after : Option RunRecord) (held taken : List ℕ) (n : ℕ) (state : State) (failures : ℕ)
+    → IfSome before (λ r. r.in_hand ≡ Some n) → Becomes (closed_at n state held failures) before after → taken ≡ []
     → Keeps before held → Keeps after taken
-close_call before after held taken n state hand is none sound =
+close_call before after held taken n state failures hand is none sound =
     subst (λ t. Keeps after t) (sym none)
-    (becomes_kept (closed_at n state held) before after held [] is
+    (becomes_kept (closed_at n state held failures) before after held [] is
     (λ r known both.
     let (held', had, fits) = both.1 in
     let same : held' ≡ held = cc in
     let here : r.in_hand ≡ Some n = subst (λ x. IfSome x (λ r. r.in_hand ≡ Some n)) known hand in
-    closed_kept r n state held
+    closed_kept r n state held failures
     (subst (λ h. Allows (bound_of r.under (content_in r.entries h)) held) here (subst (Allows (bound_in r)) same fits))
     both.0) sound)
 
@@ -93,10 +89,10 @@ idle_call (Some r) after held taken hand same none sound =
 
 -- an output that was never in hand was given up
 pub abandon_call : (before after : Option RunRecord) (held taken : List ℕ) (n : ℕ) (state : State)
-    → IfSome before (IsNew n) → Becomes (closed_at n state []) before after → taken ≡ []
+    → IfSome before (IsNew n) → Becomes (closed_at n state [] 0) before after → taken ≡ []
     → Keeps before held → Keeps after taken
 abandon_call before after held taken n state new is none sound =
     subst (λ t. Keeps after t) (sym none)
-    (becomes_kept (closed_at n state []) before after held [] is
+    (becomes_kept (closed_at n state [] 0) before after held [] is
     (λ r known both.
-    closed_kept r n state [] (allows_none r.under (content_in r.entries (Some n))) both.0) sound)
+    closed_kept r n state [] 0 (allows_none r.under (content_in r.entries (Some n))) both.0) sound)

@@ -1,5 +1,5 @@
 -- Texts of which no two are the same: what the loop over them has seen.
-use Rattle.std.proofs.Common.{◌≡◌, ◌≢◌, ◌∙◌, ◌<◌, ◌+◌, ℕ, suc, Bool, true, false, cond, ◌||◌, List, [], ◌∷◌, ◌++◌, Bor, take, take_all, length, get_or, refl, sym, ap, ap₂, subst, arith, length-take, get_or-take}
+use Rattle.std.proofs.Common.{◌≡◌, ◌≢◌, ◌∙◌, ◌<◌, ◌+◌, ℕ, suc, true, false, cond, List, [], ◌∷◌, ◌++◌, Bor, take, take_all, length, get_or, sym, ap, ap₂, subst, arith, length-take, get_or-take}
 use Rattle.std.specs.BTreeSet.{BTreeSet, contains, contains_by, Updates}
 use Rattle.std.specs.Cmp.Lexicographic.{slice_cmp, bytes_decides, nat_list_eq_equiv}
 use Rattle.std.specs.List.{AllPairs, IsDistinct, list_any}

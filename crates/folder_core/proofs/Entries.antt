@@ -3,7 +3,7 @@ use Rattle.std.proofs.Common.{◌≡◌, ℕ, zero, suc, ◌+◌, cond, List, []
 use Rattle.std.specs.Prelude.{slice_get}
 use Rattle.std.specs.List.{AllByRecursion}
 use Rattle.std.proofs.lemmas.List.Sums.{sum_by-cons}
-use Rattle.folder_core.specs.Record.{Content, Nothing, Entry, Output, Read, Unread, Refused, Created, begins, content_at, content_in, has_number, times_begun}
+use Rattle.folder_core.specs.Record.{Content, Nothing, Entry, Event, Output, Happened, Created, begins, content_at, content_in, has_number, times_begun}
 use Rattle.folder_core.specs.Changes.{change, changed}
 
 -- ---- what is at a place
@@ -14,20 +14,18 @@ change_get n f [] o at = absurd (cc)
 change_get zero f (x ∷ l) o at = let same : x ≡ Created o = cc in ap (λ y. Some (changed f y)) same
 change_get (suc n) f (x ∷ l) o at = change_get n f l o at
 
-changed_read : (f : Output → Output) (x : Entry) (name bytes : List ℕ) → Some x ≡ Some (Read name bytes)
-    → Some (changed f x) ≡ Some (Read name bytes)
-changed_read f (Created o) name bytes at = absurd (cc)
-changed_read f (Read other old) name bytes at = at
-changed_read f (Unread other) name bytes at = at
-changed_read f (Refused other fault) name bytes at = at
+changed_happened : (f : Output → Output) (x : Entry) (e : Event) → Some x ≡ Some (Happened e)
+    → Some (changed f x) ≡ Some (Happened e)
+changed_happened f (Created o) e at = absurd (cc)
+changed_happened f (Happened other) e at = at
 
-pub change_read : (n : ℕ) (f : Output → Output) (l : List Entry) (place : ℕ) (name bytes : List ℕ)
-    → slice_get l place ≡ Some (Read name bytes) → slice_get (change n f l) place ≡ Some (Read name bytes)
-change_read n f [] place name bytes at = at
-change_read zero f (x ∷ l) zero name bytes at = changed_read f x name bytes at
-change_read zero f (x ∷ l) (suc place) name bytes at = at
-change_read (suc n) f (x ∷ l) zero name bytes at = at
-change_read (suc n) f (x ∷ l) (suc place) name bytes at = change_read n f l place name bytes at
+pub change_happened : (n : ℕ) (f : Output → Output) (l : List Entry) (place : ℕ) (e : Event)
+    → slice_get l place ≡ Some (Happened e) → slice_get (change n f l) place ≡ Some (Happened e)
+change_happened n f [] place e at = at
+change_happened zero f (x ∷ l) zero e at = changed_happened f x e at
+change_happened zero f (x ∷ l) (suc place) e at = at
+change_happened (suc n) f (x ∷ l) zero e at = at
+change_happened (suc n) f (x ∷ l) (suc place) e at = change_happened n f l place e at
 
 pub get_more : (l : List Entry) (e x : Entry) (i : ℕ) → slice_get l i ≡ Some x → slice_get (l ++ e ∷ []) i ≡ Some x
 get_more [] e x i at = absurd (cc)
@@ -77,9 +75,7 @@ times_cons number e l = sum_by-cons (λ (x : Entry). cond (begins number x) 1 0)
 begins_kept : (number : ℕ) (f : Output → Output) (x : Entry) → ((o : Output) → (f o).content ≡ o.content)
     → begins number (changed f x) ≡ begins number x
 begins_kept number f (Created o) keeps = ap (has_number number) (keeps o)
-begins_kept number f (Read name bytes) keeps = refl
-begins_kept number f (Unread name) keeps = refl
-begins_kept number f (Refused name fault) keeps = refl
+begins_kept number f (Happened e) keeps = refl
 
 -- as many as before, where the contents stay
 pub times_kept : (number n : ℕ) (f : Output → Output) (l : List Entry) → ((o : Output) → (f o).content ≡ o.content)

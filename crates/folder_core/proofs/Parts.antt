@@ -1,5 +1,5 @@
 -- The parts of a path and its place: what the loop over its slashes finds, and what a place is.
-use Rattle.std.proofs.Common.{◌≡◌, ◌≢◌, ◌∙◌, ◌<◌, ◌+◌, ℕ, suc, Bool, true, false, not, ◌==◌, ◌||◌, if◌then◌else◌, List, [], ◌∷◌, ◌++◌, ◌⊎◌, inl, inr, Option, Some, None, append_assoc, append-nil, ap, ap₂, arith, bytes_eq, codes, flat_map, length, ne_eqb, refl, subst, sym, option_map, cond, drop, get_or, option_to_list, take, ⊎_elim}
+use Rattle.std.proofs.Common.{◌≡◌, ◌≢◌, ◌∙◌, ◌<◌, ◌+◌, ℕ, suc, Bool, true, false, not, ◌==◌, ◌||◌, if◌then◌else◌, List, [], ◌∷◌, ◌++◌, Option, Some, None, append_assoc, append-nil, ap, ap₂, arith, bytes_eq, codes, length, ne_eqb, refl, subst, sym, option_map, cond, drop, get_or, option_to_list, take, ⊎_elim}
 use Rattle.std.proofs.lemmas.Grind.{flat_map-append}
 use Rattle.std.proofs.lemmas.List.{append_cancel_left}
 use Rattle.std.proofs.lemmas.Bool.{cases_Bool}
@@ -9,7 +9,7 @@ use Rattle.std.proofs.Math.Seq.{take-suc}
 use Rattle.std.proofs.lemmas.List.Folds.{list_any-append}
 use Rattle.std.proofs.lemmas.Option.{same_Some}
 use Rattle.std.proofs.lemmas.Slice.Eq.{bytes_eq-Decides}
-use Rattle.std.specs.List.{All, cons_option, filter, list_any}
+use Rattle.std.specs.List.{All, cons_option, list_any}
 use Rattle.folder_core.specs.Trees.{IsStep, begun, is_nothing, is_up, last_or, named, parts, place, places, steps}
 
 -- a part in front of what begins with a slash, or of nothing
@@ -105,23 +105,23 @@ end_named path rest old new next read apart some dot up added =
     ap (option_map (λ ps. old ++ steps ps)) is ∙ ap Some end
 
 -- what a place is
-abbrev IsFree : List ℕ → Type 0
-IsFree part = All (λ byte. byte ≢ 47) part
+abbrev IsNumberFree : List ℕ → Type 0
+IsNumberFree part = All (λ byte. byte ≢ 47) part
 
-front_free : (byte : ℕ) (part : List ℕ) → byte ≢ 47 → IsFree part → IsFree (byte ∷ part)
+front_free : (byte : ℕ) (part : List ℕ) → byte ≢ 47 → IsNumberFree part → IsNumberFree (byte ∷ part)
 front_free byte part other free = All-cons (λ b. b ≢ 47) byte part other free
 
-begun_free : (byte : ℕ) (ps : List (List ℕ)) → byte ≢ 47 → All IsFree ps → All IsFree (begun byte ps)
-begun_free byte [] other free = All-cons IsFree (byte ∷ []) [] (front_free byte [] other (All-nil (λ b. b ≢ 47))) (All-nil IsFree)
+begun_free : (byte : ℕ) (ps : List (List ℕ)) → byte ≢ 47 → All IsNumberFree ps → All IsNumberFree (begun byte ps)
+begun_free byte [] other free = All-cons IsNumberFree (byte ∷ []) [] (front_free byte [] other (All-nil (λ b. b ≢ 47))) (All-nil IsNumberFree)
 begun_free byte (p ∷ ps) other free =
-    All-cons IsFree (byte ∷ p) ps (front_free byte p other (free 0 [] (omega arith))) (λ k d less. free (suc k) d (omega (arith, less)))
+    All-cons IsNumberFree (byte ∷ p) ps (front_free byte p other (free 0 [] (omega arith))) (λ k d less. free (suc k) d (omega (arith, less)))
 
-parts_free : (path : List ℕ) → All IsFree (parts path)
-parts_free [] = All-cons IsFree [] [] (All-nil (λ b. b ≢ 47)) (All-nil IsFree)
+parts_free : (path : List ℕ) → All IsNumberFree (parts path)
+parts_free [] = All-cons IsNumberFree [] [] (All-nil (λ b. b ≢ 47)) (All-nil IsNumberFree)
 parts_free (byte ∷ path) =
     ⊎_elim
-    (λ slash. subst (All IsFree) (sym (ap (λ b. if b then [] ∷ parts path else begun byte (parts path)) slash.0)) (All-cons IsFree [] (parts path) (All-nil (λ b. b ≢ 47)) (parts_free path)))
-    (λ other. subst (All IsFree) (sym (ap (λ b. if b then [] ∷ parts path else begun byte (parts path)) other.0)) (begun_free byte (parts path) other.1 (parts_free path)))
+    (λ slash. subst (All IsNumberFree) (sym (ap (λ b. if b then [] ∷ parts path else begun byte (parts path)) slash.0)) (All-cons IsNumberFree [] (parts path) (All-nil (λ b. b ≢ 47)) (parts_free path)))
+    (λ other. subst (All IsNumberFree) (sym (ap (λ b. if b then [] ∷ parts path else begun byte (parts path)) other.0)) (begun_free byte (parts path) other.1 (parts_free path)))
     (eqb_tells byte 47)
 
 neither : (a b : Bool) → (a || b) ≡ false → (a ≡ false) × (b ≡ false)
@@ -137,7 +137,7 @@ passed : (part : List ℕ) (ps : List (List ℕ)) (b : Bool) → is_nothing part
 passed part ps true is = ap (λ b. cond (not b) (part ∷ named ps) (named ps)) is
 passed part ps false is = ap (λ b. cond (not b) (part ∷ named ps) (named ps)) is
 
-named_steps : (ps : List (List ℕ)) → All IsFree ps → list_any is_up ps ≡ false → All IsStep (named ps)
+named_steps : (ps : List (List ℕ)) → All IsNumberFree ps → list_any is_up ps ≡ false → All IsStep (named ps)
 named_steps [] free down = All-nil IsStep
 named_steps (p ∷ ps) free down =
     let parts_down = neither (is_up p) (list_any is_up ps) down in

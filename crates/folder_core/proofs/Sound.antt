@@ -1,16 +1,15 @@
 -- Each change of the record keeps it sound, and what the output in hand took within what it may hold.
-use Rattle.std.proofs.Common.{◌≡◌, ℕ, zero, suc, ◌+◌, ◌≤◌, Bool, true, false, cond, nat_eq, List, [], ◌∷◌, ◌++◌, Option, None, Some, refl, sym, ap, ◌∙◌, subst, arith, eqb-true, append_assoc}
+use Rattle.std.proofs.Common.{◌≡◌, inl, ℕ, zero, suc, ◌+◌, ◌≤◌, Bool, true, false, cond, List, [], ◌∷◌, ◌++◌, Option, None, Some, refl, sym, ap, ◌∙◌, subst, arith, eqb-true, append_assoc}
 use Rattle.std.specs.Prelude.{slice_get, option_map}
 use Rattle.std.specs.List.{AllByRecursion}
 use Rattle.io_core.specs.Streams.{IsFront}
 use Rattle.container_core.specs.Container.{container}
-use Rattle.container_core.specs.Shape.{ShapeView}
 use Rattle.journal_core.specs.Range.{prefix_of}
 use Rattle.output_core.specs.Bounds.{Admits, Allows, Bound, Exactly, IsWithin}
 use Rattle.output_core.specs.Bounds as bounds
-use Rattle.folder_core.specs.Record.{Content, Nothing, Container, Plain, Entry, Holds, IsAllowed, IsSound, IsSoundWith, KeyedRange, Output, Read, Unread, Refused, Created, RunRecord, State, WasRead, begins, bound_in, bound_of, content_at, content_in, times_begun}
-use Rattle.folder_core.specs.Changes.{IsNew, MayBegin, MayOpen, allowed, change, closed_at, new_output, set_bytes, set_closed, set_content, whole, whole_by, with_entry}
-use Rattle.folder_core.proofs.Entries.{all_change, all_end, all_map, change_get, change_read, content_more, get_more, times_end, times_kept, times_more}
+use Rattle.folder_core.specs.Record.{Checked, Content, Nothing, Container, Plain, Entry, Event, Happened, Holds, IsAllowed, IsSound, IsSoundWith, KeyedRange, Output, Created, RunRecord, State, WasRead, WasReadAgain, begins, bound_in, bound_of, content_at, content_in, has_number, times_begun}
+use Rattle.folder_core.specs.Changes.{IsNumberFree, IsNew, MayHold, allowed, change, closed_at, new_output, set_bytes, set_closed, set_content, whole, whole_by, with_entry}
+use Rattle.folder_core.proofs.Entries.{all_change, all_end, all_map, change_get, change_happened, content_more, get_more, times_end, times_kept, times_more}
 
 -- ---- an output that may hold bytes may hold a prefix of them
 
@@ -35,41 +34,50 @@ allows_none None (Container number shape) = ([], refl)
 allows_none (Some under) (Container number shape) =
     ([], (container under.key shape (prefix_of under.range.device number) [], refl))
 allows_none under (Plain key whole) = (whole, refl)
+allows_none under (Checked key header last) = ([], inl refl, ([], refl))
 
 -- ---- what was read remains read
 
 read_change : (n : ℕ) (f : Output → Output) (l : List Entry) (key plain : List ℕ) → WasRead l key plain → WasRead (change n f l) key plain
 read_change n f l key plain (place, name, bytes, most, at, opens) =
-    (place, name, bytes, most, change_read n f l place name bytes at, opens)
+    (place, name, bytes, most, change_happened n f l place _ at, opens)
+
+again_change : (n : ℕ) (f : Output → Output) (l : List Entry) (key header last : List ℕ) → WasReadAgain l key header last
+    → WasReadAgain (change n f l) key header last
+again_change n f l key header last (place, name, first, plain, most, at, behind, opens, has, long) =
+    (place, name, first, plain, most, change_happened n f l place _ at, change_happened n f l (suc place) _ behind, opens, has, long)
 
 allowed_change : (under : Option KeyedRange) (n : ℕ) (f : Output → Output) (l : List Entry) (content : Content)
     → IsAllowed under l content → IsAllowed under (change n f l) content
 allowed_change under n f l Nothing may = may
 allowed_change under n f l (Container number shape) may = may
 allowed_change under n f l (Plain key plain) may = read_change n f l key plain may
+allowed_change under n f l (Checked key header last) may = again_change n f l key header last may
 
 holds_change : (under : Option KeyedRange) (n : ℕ) (f : Output → Output) (l : List Entry) (e : Entry)
     → Holds under l e → Holds under (change n f l) e
 holds_change under n f l (Created o) holds = (allowed_change under n f l o.content holds.0, holds.1)
-holds_change under n f l (Read name bytes) holds = tt
-holds_change under n f l (Unread name) holds = tt
-holds_change under n f l (Refused name fault) holds = tt
+holds_change under n f l (Happened event) holds = tt
 
 read_more : (l : List Entry) (e : Entry) (key plain : List ℕ) → WasRead l key plain → WasRead (l ++ e ∷ []) key plain
 read_more l e key plain (place, name, bytes, most, at, opens) =
-    (place, name, bytes, most, get_more l e (Read name bytes) place at, opens)
+    (place, name, bytes, most, get_more l e _ place at, opens)
+
+again_more : (l : List Entry) (e : Entry) (key header last : List ℕ) → WasReadAgain l key header last
+    → WasReadAgain (l ++ e ∷ []) key header last
+again_more l e key header last (place, name, first, plain, most, at, behind, opens, has, long) =
+    (place, name, first, plain, most, get_more l e _ place at, get_more l e _ (suc place) behind, opens, has, long)
 
 allowed_more : (under : Option KeyedRange) (l : List Entry) (e : Entry) (content : Content)
     → IsAllowed under l content → IsAllowed under (l ++ e ∷ []) content
 allowed_more under l e Nothing may = may
 allowed_more under l e (Container number shape) may = may
 allowed_more under l e (Plain key plain) may = read_more l e key plain may
+allowed_more under l e (Checked key header last) may = again_more l e key header last may
 
 holds_more : (under : Option KeyedRange) (l : List Entry) (more e : Entry) → Holds under l e → Holds under (l ++ more ∷ []) e
 holds_more under l more (Created o) holds = (allowed_more under l more o.content holds.0, holds.1)
-holds_more under l more (Read name bytes) holds = tt
-holds_more under l more (Unread name) holds = tt
-holds_more under l more (Refused name fault) holds = tt
+holds_more under l more (Happened event) holds = tt
 
 -- ---- an output that holds other bytes
 
@@ -79,9 +87,7 @@ write_all : (under : Option KeyedRange) (all : List Entry) (n : ℕ) (f : Output
     → AllByRecursion (Holds under all) (change n f l)
 write_all under all n f held [] good fits holds = tt
 write_all under all zero f held (Created o ∷ l) good fits holds = (good o holds.0.0 fits, holds.1)
-write_all under all zero f held (Read name bytes ∷ l) good fits holds = holds
-write_all under all zero f held (Unread name ∷ l) good fits holds = holds
-write_all under all zero f held (Refused name fault ∷ l) good fits holds = holds
+write_all under all zero f held (Happened event ∷ l) good fits holds = holds
 write_all under all (suc n) f held (x ∷ l) good fits holds = (holds.0, write_all under all n f held l good fits holds.1)
 
 each_written : (r : RunRecord) (n : ℕ) (f : Output → Output) (held : List ℕ)
@@ -151,9 +157,9 @@ entry_kept r e taken none holds apart (sound, (held, known, fits)) = (
   (held, known, subst (λ c. Allows (bound_of r.under c) held) (sym (content_more r.entries e r.in_hand none)) fits),
 )
 
-pub read_kept : (r : RunRecord) (name bytes : List ℕ) (taken : Option (List ℕ)) → IsSoundWith (Some r) taken
-    → IsSoundWith (Some (with_entry (Read name bytes) r)) taken
-read_kept r name bytes taken both = entry_kept r (Read name bytes) taken refl tt (λ number. refl) both
+pub event_kept : (r : RunRecord) (event : Event) (taken : Option (List ℕ)) → IsSoundWith (Some r) taken
+    → IsSoundWith (Some (with_entry (Happened event) r)) taken
+event_kept r event taken both = entry_kept r (Happened event) taken refl tt (λ number. refl) both
 
 pub created_kept : (r : RunRecord) (name : List ℕ) (taken : Option (List ℕ)) → IsSoundWith (Some r) taken
     → IsSoundWith (Some (with_entry (Created (new_output name)) r)) taken
@@ -185,33 +191,28 @@ few : (b : Bool) (k n : ℕ) → k ≡ cond b 1 0 + n → n ≤ 1 → (b ≡ tru
 few true k n is most free = let none = free refl in omega arith
 few false k n is most free = omega arith
 
-pub container_kept : (r : RunRecord) (n number : ℕ) (shape : ShapeView) (taken : Option (List ℕ)) → MayBegin n number shape r
-    → IsSoundWith (Some r) taken → IsSoundWith (Some (allowed n (Container number shape) r)) (Some [])
-container_kept r n number shape taken may both =
-    let content : Content = Container number shape in
-    taken_kept r n content may.new (may.is_shape, may.of_range)
-    (λ m.
-    few (nat_eq m number) _ (times_begun m r.entries)
-    (times_more m n content (set_content content) r.entries (new_output may.new.name) may.new.there refl (λ o. refl))
-    (both.0.once m) (λ same. ap (λ k. times_begun k r.entries) (eqb-true m number same) ∙ may.free))
-    both.0
+free_of : (l : List Entry) (content : Content) (m : ℕ) → IsNumberFree l content → has_number m content ≡ true → times_begun m l ≡ 0
+free_of l Nothing m free is = absurd (cc)
+free_of l (Container number shape) m free is = ap (λ k. times_begun k l) (eqb-true m number is) ∙ free
+free_of l (Plain key whole) m free is = absurd (cc)
+free_of l (Checked key header last) m free is = absurd (cc)
 
-pub plain_kept : (r : RunRecord) (n : ℕ) (key plain : List ℕ) (taken : Option (List ℕ)) → MayOpen n key plain r
-    → IsSoundWith (Some r) taken → IsSoundWith (Some (allowed n (Plain key plain) r)) (Some [])
-plain_kept r n key plain taken may both =
-    let content : Content = Plain key plain in
-    taken_kept r n content may.new may.read
+pub held_kept : (r : RunRecord) (n : ℕ) (content : Content) (taken : Option (List ℕ)) → MayHold n content r
+    → IsSoundWith (Some r) taken → IsSoundWith (Some (allowed n content r)) (Some [])
+held_kept r n content taken may both =
+    taken_kept r n content may.new may.allowed
     (λ m.
-    let all = times_more m n content (set_content content) r.entries (new_output may.new.name) may.new.there refl (λ o. refl) in
-    let most = both.0.once m in omega arith)
+    few (has_number m content) _ (times_begun m r.entries)
+    (times_more m n content (set_content content) r.entries (new_output may.new.name) may.new.there refl (λ o. refl))
+    (both.0.once m) (free_of r.entries content m may.free))
     both.0
 
 -- an output was closed
-pub closed_kept : (r : RunRecord) (n : ℕ) (state : State) (held : List ℕ)
+pub closed_kept : (r : RunRecord) (n : ℕ) (state : State) (held : List ℕ) (failures : ℕ)
     → Allows (bound_of r.under (content_in r.entries (Some n))) held → IsSound r
-    → IsSoundWith (Some (closed_at n state held r)) (Some [])
-closed_kept r n state held fits sound =
-    let f : Output → Output = set_closed state held in (
+    → IsSoundWith (Some (closed_at n state held failures r)) (Some [])
+closed_kept r n state held failures fits sound =
+    let f : Output → Output = set_closed state held failures in (
       record {
         each = each_written r n f held (λ o may good. (may, good)) fits sound;
         once = once_kept r n f (λ o. refl) sound;

@@ -1,8 +1,7 @@
 -- What each call of a folder changes in the record of its run.
-use Rattle.std.specs.Prelude.{◌≡◌, ℕ, zero, suc, List, [], ◌∷◌, ◌++◌, slice_get, Option, None, Some, IfSome}
-use Rattle.container_core.specs.Shape.{IsShape, ShapeView}
-use Rattle.folder_core.specs.Record.{Content, Entry, IsOfRange, Nothing, Open, Output, RunRecord, State}
-use Rattle.folder_core.specs.Record.{Read, Unread, Refused, Created, WasRead, times_begun}
+use Rattle.std.specs.Prelude.{⊤, ◌≡◌, ℕ, zero, suc, List, [], ◌∷◌, ◌++◌, slice_get, Option, None, Some, IfSome}
+use Rattle.folder_core.specs.Record.{Checked, Container, Content, Created, Entry, Event, Happened, IsAllowed, Nothing, Open}
+use Rattle.folder_core.specs.Record.{Output, Plain, RunRecord, State, times_begun}
 
 -- The record changed so, if it is still known. A folder may forget.
 abbrev pub Becomes : (RunRecord → RunRecord) → Option RunRecord → Option RunRecord → Type 0
@@ -16,16 +15,24 @@ with_entry entry r = record r { entries = r.entries ++ entry ∷ [] }
 
 -- An output that was just created: it may hold nothing yet.
 abbrev pub new_output : List ℕ → Output
-new_output name = record { name = name; content = Nothing; bytes = []; state = Open }
+new_output name = record { name = name; content = Nothing; bytes = []; failures = 0; state = Open }
+
+-- This came last, if it is still known: a reader's or writer's count of failed calls is known then.
+abbrev pub Tells : (ℕ → Event) → Option ℕ → Option RunRecord → Option RunRecord → Type 0
+Tells event failures before after = IfSome after (λ _. (n : ℕ) × (failures ≡ Some n)
+    × Becomes (with_entry (Happened (event n))) before after)
+
+-- The same of bytes that a reader has to give.
+abbrev pub TellsBytes : (List ℕ → Event) → Option (List ℕ) → Option RunRecord → Option RunRecord → Type 0
+TellsBytes event left before after = IfSome after (λ _. (bytes : List ℕ) × (left ≡ Some bytes)
+    × Becomes (with_entry (Happened (event bytes))) before after)
 
 -- ---- one output changes
 
 -- The entry, if it is an output, changed by this function.
 abbrev pub changed : (Output → Output) → Entry → Entry
 changed f (Created output) = Created (f output)
-changed f (Read name bytes) = Read name bytes
-changed f (Unread name) = Unread name
-changed f (Refused name fault) = Refused name fault
+changed f (Happened event) = Happened event
 
 -- The entries, of which the output at this place is changed.
 abbrev pub change : ℕ → (Output → Output) → List Entry → List Entry
@@ -41,36 +48,36 @@ set_content content output = record output { content = content }
 abbrev pub set_bytes : List ℕ → Output → Output
 set_bytes bytes output = record output { bytes = bytes }
 
--- The output was closed with these bytes.
-abbrev pub set_closed : State → List ℕ → Output → Output
-set_closed state bytes output = record output { bytes = bytes; state = state }
+-- The output was closed with these bytes, after so many failed writes.
+abbrev pub set_closed : State → List ℕ → ℕ → Output → Output
+set_closed state bytes failures output = record output { bytes = bytes; failures = failures; state = state }
 
 -- The output at this place was taken in hand, with this content.
 abbrev pub allowed : ℕ → Content → RunRecord → RunRecord
 allowed place content r =
     record r { entries = change place (set_content content) r.entries; in_hand = Some place }
 
--- The output at this place was closed with these bytes, and none is in hand.
-abbrev pub closed_at : ℕ → State → List ℕ → RunRecord → RunRecord
-closed_at place state bytes r =
-    record r { entries = change place (set_closed state bytes) r.entries; in_hand = None }
+-- The output at this place was closed with these bytes, after so many failed writes, and none is in hand.
+abbrev pub closed_at : ℕ → State → List ℕ → ℕ → RunRecord → RunRecord
+closed_at place state bytes failures r =
+    record r { entries = change place (set_closed state bytes failures) r.entries; in_hand = None }
 
--- The output in hand, if one is, was closed with these bytes.
-abbrev pub closed_by : Option ℕ → State → List ℕ → RunRecord → RunRecord
-closed_by None state bytes r = r
-closed_by (Some place) state bytes r = closed_at place state bytes r
+-- The output in hand, if one is, was closed so.
+abbrev pub closed_by : Option ℕ → State → List ℕ → ℕ → RunRecord → RunRecord
+closed_by None state bytes failures r = r
+closed_by (Some place) state bytes failures r = closed_at place state bytes failures r
 
-abbrev pub closed : State → List ℕ → RunRecord → RunRecord
-closed state bytes r = closed_by r.in_hand state bytes r
+abbrev pub closed : State → List ℕ → ℕ → RunRecord → RunRecord
+closed state bytes failures r = closed_by r.in_hand state bytes failures r
 
--- The output in hand was closed with the bytes that it took.
-abbrev pub Closes : State → Option RunRecord → Option (List ℕ) → Option RunRecord → Type 0
-Closes state before taken after = IfSome after (λ r. (was : RunRecord) × (bytes : List ℕ) × (before ≡ Some was)
-    × (taken ≡ Some bytes) × (r ≡ closed state bytes was))
+-- The output in hand was closed with the bytes that it took, after so many failed writes.
+abbrev pub Closes : State → Option RunRecord → Option (List ℕ) → Option ℕ → Option RunRecord → Type 0
+Closes state before taken failures after = IfSome after (λ r. (was : RunRecord) × (bytes : List ℕ) × (n : ℕ)
+    × (before ≡ Some was) × (taken ≡ Some bytes) × (failures ≡ Some n) × (r ≡ closed state bytes n was))
 
--- Nothing is in hand, so nothing was taken.
-abbrev pub IsIdle : Option RunRecord → Option (List ℕ) → Type 0
-IsIdle rest taken = IfSome rest (λ _. taken ≡ Some [])
+-- Nothing was taken, and no write failed.
+abbrev pub IsFresh : Option RunRecord → Option (List ℕ) → Option ℕ → Type 0
+IsFresh rest taken failures = IfSome rest (λ _. (taken ≡ Some []) × (failures ≡ Some 0))
 
 -- The whole record at a moment: the output in hand holds the bytes that it took.
 abbrev pub whole_by : Option ℕ → List ℕ → RunRecord → RunRecord
@@ -88,14 +95,15 @@ pub record IsNew (place : ℕ) (r : RunRecord) : Type 0 where
   pub idle : r.in_hand ≡ None
   pub there : slice_get r.entries place ≡ Some (Created (new_output name))
 
--- A container of this number and shape may begin there: no other has the number.
-pub record MayBegin (place number : ℕ) (shape : ShapeView) (r : RunRecord) : Type 0 where
-  pub new : IsNew place r
-  pub is_shape : IsShape shape
-  pub of_range : IsOfRange r.under number
-  pub free : times_begun number r.entries ≡ 0
+-- No other output has the number of this content.
+abbrev pub IsNumberFree : List Entry → Content → Type 0
+IsNumberFree entries Nothing = ⊤
+IsNumberFree entries (Container number shape) = times_begun number entries ≡ 0
+IsNumberFree entries (Plain key whole) = ⊤
+IsNumberFree entries (Checked key header last) = ⊤
 
--- This plaintext of a file that was read may begin there.
-pub record MayOpen (place : ℕ) (key plain : List ℕ) (r : RunRecord) : Type 0 where
+-- This content may begin there: it is allowed, and no other output has its number.
+pub record MayHold (place : ℕ) (content : Content) (r : RunRecord) : Type 0 where
   pub new : IsNew place r
-  pub read : WasRead r.entries key plain
+  pub allowed : IsAllowed r.under r.entries content
+  pub free : IsNumberFree r.entries content

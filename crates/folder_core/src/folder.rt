@@ -3,19 +3,19 @@
 //!
 //! At every moment the record of the run is sound: this is a law of the trait, so it also holds where a run is killed.
 ghost use Rattle.std.specs.Prelude.{◌≡◌, ℕ, ◌<◌, List, [], length, None, Some, Option, IfOk, IfErr, IfSome, OnOk};
-ghost use Rattle.std.specs.Prelude.{OnErr, is_err, option_map};
+ghost use Rattle.std.specs.Prelude.{OnErr, is_err, option_map, true};
 ghost use Rattle.std.specs.Io.{WritesAtMost};
 ghost use Rattle.io_core.specs.Streams.{WriteAppends, counted};
 ghost use Rattle.output_core.specs.Bounds.{Admits};
-ghost use Rattle.folder_core.specs.Record.{Container, Created, Finished, GivenUp, IsSoundWith, Plain, Read};
-ghost use Rattle.folder_core.specs.Record.{Refused, RunRecord, Unread, bound_in};
-ghost use Rattle.folder_core.specs.Changes.{Becomes, Closes, IsIdle, IsNew, MayBegin, MayOpen, allowed};
-ghost use Rattle.folder_core.specs.Changes.{closed_at, new_output, with_entry};
+ghost use Rattle.folder_core.specs.Record.{Checked, Closed, Container, Created, Finished, GivenUp, Happened};
+ghost use Rattle.folder_core.specs.Record.{IsSoundWith, Plain, Read, Refused, Repeated, RunRecord, Unread, Unrepeated};
+ghost use Rattle.folder_core.specs.Record.{bound_in};
+ghost use Rattle.folder_core.specs.Changes.{Becomes, Closes, TellsBytes, IsFresh, IsNew, MayHold, Tells, allowed, closed_at};
+ghost use Rattle.folder_core.specs.Changes.{new_output, with_entry};
 
 use crate::fault::FolderFault;
-use crate::reader::FileReader;
-use container_core::Shape;
-use io_core::Failed;
+use container_core::{Header, Key, Shape};
+use io_core::{Failed, Source};
 
 /// What stands for an output that isn't in hand.
 pub trait Place {
@@ -34,15 +34,15 @@ pub trait Outputs {
     // The bytes that the output in hand took, if known.
     ghost taken: { Self → Option (List ℕ) } = { λ _. None };
 
-    // How many writes failed so far, if known.
+    // How many writes to it failed, if known. A refused end is one.
     ghost failures: { Self → Option ℕ } = { λ _. None };
 
     /// Takes a new output in hand. It is to hold the container of some plaintext, under this number and in this shape.
     fn allow_container(&mut self, output: Self::Handle, number: u32, shape: &Shape)
-        requires may { IfSome (rest self.old) (MayBegin (Self.Handle.at output) number shape.now) }
+        requires may { IfSome (rest self.old) (MayHold (Self.Handle.at output) (Container number shape.now)) }
         ensures allowed { Becomes (allowed (Self.Handle.at output) (Container number shape.now))
             (rest self.old) (rest self.new) }
-        ensures empty { IsIdle (rest self.new) (taken self.new) };
+        ensures fresh { IsFresh (rest self.new) (taken self.new) (failures self.new) };
 
     /// Writes a prefix of `bytes` to the output in hand, and returns its length. A call with a nonempty slice takes at
     /// least one byte, or fails. A failed call takes none, and raises the count of failures by one (past 2^64 - 1 it is
@@ -55,17 +55,20 @@ pub trait Outputs {
         ensures same { rest self.new ≡ rest self.old }
         ensures count { failures self.new ≡ counted (is_err result) (failures self.old) };
 
-    /// Finishes the output in hand: it is whole. If that fails it stays in hand, to be given up.
+    /// Finishes the output in hand: it is whole. If that fails it stays in hand, to be given up, and that counts as a
+    /// failed write.
     fn finish(&mut self) -> Result<(), Failed>
-        ensures finished { OnOk result (Closes Finished (rest self.old) (taken self.old) (rest self.new)) }
-        ensures empty { OnOk result (IsIdle (rest self.new) (taken self.new)) }
+        ensures finished { OnOk result
+            (Closes Finished (rest self.old) (taken self.old) (failures self.old) (rest self.new)) }
+        ensures fresh { OnOk result (IsFresh (rest self.new) (taken self.new) (failures self.new)) }
         ensures rest { OnErr result (rest self.new ≡ rest self.old) }
-        ensures taken { OnErr result (taken self.new ≡ taken self.old) };
+        ensures taken { OnErr result (taken self.new ≡ taken self.old) }
+        ensures count { OnErr result (failures self.new ≡ counted true (failures self.old)) };
 
-    /// Gives the output in hand up, and tries to remove it.
+    /// TellsBytes the output in hand up, and tries to remove it.
     fn discard(&mut self) -> Result<(), Failed>
-        ensures discarded { Closes GivenUp (rest self.old) (taken self.old) (rest self.new) }
-        ensures empty { IsIdle (rest self.new) (taken self.new) };
+        ensures discarded { Closes GivenUp (rest self.old) (taken self.old) (failures self.old) (rest self.new) }
+        ensures fresh { IsFresh (rest self.new) (taken self.new) (failures self.new) };
 
     // At every moment the record is sound, and what the output in hand took is a prefix of what it may hold.
     ghost sound: { (outputs : Self) → ∥ IsSoundWith (rest outputs) (taken outputs) ∥₁ };
@@ -74,16 +77,46 @@ pub trait Outputs {
 /// A folder of files, each of which has a name.
 pub trait Folder: Outputs {
     /// What reads a file of this folder.
-    type Reader: FileReader + Drop;
+    type Reader: Source + Drop;
 
     /// Opens a file for reading from its beginning.
     fn open(&mut self, name: &str) -> Result<Self::Reader, Failed>
-        ensures opened { IfOk result (λ reader. IfSome (Self.rest self.new) (λ _. (bytes : List ℕ)
-            × (Self.Reader.left reader ≡ Some bytes) × (Self.Reader.whole reader ≡ Some bytes)
-            × Becomes (with_entry (Read name.now bytes)) (Self.rest self.old) (Self.rest self.new))) }
+        ensures opened { IfOk result (λ reader.
+            TellsBytes (Read name.now) (Self.Reader.left reader) (Self.rest self.old) (Self.rest self.new)) }
+        ensures count { IfOk result (λ reader. IfSome (Self.rest self.new) (λ _. Self.Reader.failures reader
+            ≡ Some 0)) }
         ensures unopened { OnErr result
-            (Becomes (with_entry (Unread name.now)) (Self.rest self.old) (Self.rest self.new)) }
-        ensures taken { Self.taken self.new ≡ Self.taken self.old };
+            (Becomes (with_entry (Happened (Unread name.now))) (Self.rest self.old) (Self.rest self.new)) }
+        ensures taken { Self.taken self.new ≡ Self.taken self.old }
+        ensures failures { Self.failures self.new ≡ Self.failures self.old };
+
+    /// How many bytes the file of a reader had when it was opened, of which nothing was read yet. `None` if the folder
+    /// can't tell: a pipe has no length. The file can grow or shrink since.
+    fn length(&self, reader: &Self::Reader) -> Option<u64>
+        ensures length { IfSome (Self.rest self.now) (λ _. IfSome (Self.Reader.left reader.now) (λ bytes.
+            IfSome result (λ n. n ≡ length bytes))) };
+
+    /// Whether the file of a reader can be read again. A pipe can't.
+    fn can_repeat(&self, reader: &Self::Reader) -> bool;
+
+    /// Goes back to the first byte of a file that was opened by this name: of the same open file, whatever has the name
+    /// by now. Fails if the file can't be read again, which counts as a failed call of its reader.
+    fn again(&mut self, name: &str, reader: &mut Self::Reader) -> Result<(), Failed>
+        ensures again { OnOk result
+            (TellsBytes (Repeated name.now) (Self.Reader.left reader.new) (Self.rest self.old) (Self.rest self.new)) }
+        ensures refused { OnErr result
+            (Becomes (with_entry (Happened (Unrepeated name.now))) (Self.rest self.old) (Self.rest self.new)) }
+        ensures count { IfSome (Self.rest self.new) (λ _. Self.Reader.failures reader.new
+            ≡ counted (is_err result) (Self.Reader.failures reader.old)) }
+        ensures taken { Self.taken self.new ≡ Self.taken self.old }
+        ensures failures { Self.failures self.new ≡ Self.failures self.old };
+
+    /// Closes a file that was opened by this name. The record has how many calls of its reader failed.
+    fn close(&mut self, name: &str, reader: Self::Reader)
+        ensures closed { Tells (Closed name.now) (Self.Reader.failures reader) (Self.rest self.old)
+            (Self.rest self.new) }
+        ensures taken { Self.taken self.new ≡ Self.taken self.old }
+        ensures failures { Self.failures self.new ≡ Self.failures self.old };
 
     /// Creates an empty output, in which nothing may be written yet. It never replaces a file: `Exists` if the name
     /// exists, `Failed` for any other cause.
@@ -93,15 +126,16 @@ pub trait Folder: Outputs {
         ensures place { IfOk result (λ output. IfSome (Self.rest self.old)
             (λ was. Self.Handle.at output ≡ length was.entries)) }
         ensures refused { IfErr result (λ fault.
-            Becomes (with_entry (Refused name.now fault)) (Self.rest self.old) (Self.rest self.new)) }
-        ensures taken { Self.taken self.new ≡ Self.taken self.old };
+            Becomes (with_entry (Happened (Refused name.now fault))) (Self.rest self.old) (Self.rest self.new)) }
+        ensures taken { Self.taken self.new ≡ Self.taken self.old }
+        ensures failures { Self.failures self.new ≡ Self.failures self.old };
 
-    /// Gives up an output that was never in hand, and tries to remove it. Nothing is in hand.
+    /// TellsBytes up an output that was never in hand, and tries to remove it. Nothing is in hand.
     fn abandon(&mut self, output: Self::Handle) -> Result<(), Failed>
         requires new { IfSome (Self.rest self.old) (IsNew (Self.Handle.at output)) }
-        ensures abandoned { Becomes (closed_at (Self.Handle.at output) GivenUp [])
+        ensures abandoned { Becomes (closed_at (Self.Handle.at output) GivenUp [] 0)
             (Self.rest self.old) (Self.rest self.new) }
-        ensures empty { IsIdle (Self.rest self.new) (Self.taken self.new) };
+        ensures fresh { IsFresh (Self.rest self.new) (Self.taken self.new) (Self.failures self.new) };
 }
 
 /// Names a key and a plaintext, in proofs alone.
@@ -113,11 +147,28 @@ pub trait Whole {
 
 /// A folder into whose outputs plaintexts are written, of containers that were read in it.
 pub trait OpeningFolder: Folder {
-    /// Takes a new output in hand. It is to hold the plaintext of a file that was read. The caller needn't have the
-    /// plaintext: a second reading of the file may give it, piece by piece.
+    /// Takes a new output in hand. It is to hold the plaintext of a file that was read.
     fn allow_plain<N: Whole>(&mut self, output: Self::Handle)
-        requires may { IfSome (Self.rest self.old) (MayOpen (Self.Handle.at output) N.key N.plain) }
+        requires may { IfSome (Self.rest self.old) (MayHold (Self.Handle.at output) (Plain N.key N.plain)) }
         ensures allowed { Becomes (allowed (Self.Handle.at output) (Plain N.key N.plain))
             (Self.rest self.old) (Self.rest self.new) }
-        ensures empty { IsIdle (Self.rest self.new) (Self.taken self.new) };
+        ensures fresh { IsFresh (Self.rest self.new) (Self.taken self.new) (Self.failures self.new) };
+
+    /// Takes a new output in hand. It is to hold what is opened of a second reading, as far as its chunks are checked,
+    /// each at its place, under the header of a first reading that opens under this key. The second may give anything.
+    fn allow_checked(
+        &mut self,
+        output: Self::Handle,
+        key: &Key,
+        header: &Header,
+        reader: &Self::Reader,
+    )
+        requires may { IfSome (Self.rest self.old) (λ was. (last : List ℕ)
+            × (Self.Reader.left reader.now ≡ Some last)
+            × MayHold (Self.Handle.at output) (Checked key.now header.now last) was) }
+        ensures allowed { IfSome (Self.rest self.new) (λ _. (last : List ℕ)
+            × (Self.Reader.left reader.now ≡ Some last)
+            × Becomes (allowed (Self.Handle.at output) (Checked key.now header.now last))
+            (Self.rest self.old) (Self.rest self.new)) }
+        ensures fresh { IsFresh (Self.rest self.new) (Self.taken self.new) (Self.failures self.new) };
 }

@@ -26,3 +26,4 @@ pub noted_again : (content : Content) → content_of (noted content) ≡ content
 noted_again run.Nothing = refl
 noted_again (run.Container number shape) = refl
 noted_again (run.Plain key whole) = refl
+noted_again (run.Checked key header last) = refl

@@ -1,11 +1,11 @@
 -- The record of a folder in memory, unless it was forgotten.
-use Rattle.std.proofs.Common.{◌≡◌, ℕ, Bool, true, false, List, length, Option, None, Some, refl, sym, subst}
+use Rattle.std.proofs.Common.{◌≡◌, ◌∙◌, ℕ, Bool, true, false, List, [], length, Option, None, Some, MatchOption, refl, sym, ap, subst}
 use Rattle.std.specs.Prelude.{IfSome}
-use Rattle.folder_core.specs.Record.{Entry, RunRecord}
-use Rattle.folder_core.specs.Changes.{Becomes, with_entry}
-use Rattle.folder_core.proofs.Calls.{Keeps}
+use Rattle.folder_core.specs.Record.{Checked, Entry, GivenUp, RunRecord, State}
+use Rattle.folder_core.specs.Changes.{Becomes, MayHold, closed_at, with_entry}
+use Rattle.folder_core.proofs.Calls.{Keeps, close_call, idle_call}
 use Rattle.folder_core.specs.Record.{IsSoundWith}
-use Rattle.folder_tests.specs.Memory.{Tells, entry_of, rest_by}
+use Rattle.folder_tests.specs.Memory.{Notes, entry_of, rest_by}
 use Rattle.folder_tests.specs.declared.pages.MemoryEntry.{MemoryEntry}
 
 pub becomes_by : (f : RunRecord → RunRecord) (told told' : Bool) (r r' : RunRecord) → told' ≡ told → r' ≡ f r
@@ -28,6 +28,55 @@ sound_by true r taken sound = ∣ sound ∣₁
 sound_by false r taken sound = ∣ (tt, tt) ∣₁
 
 pub tells_becomes : (entry : Option MemoryEntry) (e : Entry) (before after : Option RunRecord) → IfSome entry (λ x. entry_of x ≡ e)
-    → Tells entry before after → Becomes (with_entry e) before after
+    → Notes entry before after → Becomes (with_entry e) before after
 tells_becomes None e before after is tells = subst (λ x. Becomes (with_entry e) before x) (sym tells) tt
 tells_becomes (Some x) e before after is tells = subst (λ y. Becomes (with_entry y) before after) is tells
+
+-- ---- what was in hand was closed, or all is forgotten
+
+abbrev pub IsKnown : Option ℕ → Bool → Bool → Type 0
+IsKnown failures told told' = MatchOption failures (told' ≡ false) (λ _. told' ≡ told)
+
+pub becomes_or_lost : (f : RunRecord → RunRecord) (failures : Option ℕ) (told told' : Bool) (r r' : RunRecord)
+    → IsKnown failures told told' → r' ≡ f r → Becomes f (rest_by told r) (rest_by told' r')
+becomes_or_lost f None told told' r r' lost is = subst (λ b. Becomes f (rest_by told r) (rest_by b r')) (sym lost) tt
+becomes_or_lost f (Some m) told told' r r' same is = becomes_by f told told' r r' same is
+
+pub close_kept : (failures : Option ℕ) (told told' : Bool) (r r' : RunRecord) (held taken : List ℕ) (n : ℕ) (state : State)
+    → r.in_hand ≡ Some n → IsKnown failures told told'
+    → ((m : ℕ) → failures ≡ Some m → r' ≡ closed_at n state held m r) → taken ≡ []
+    → Keeps (rest_by told r) held → Keeps (rest_by told' r') taken
+close_kept None told told' r r' held taken n state hand lost closed none sound =
+    subst (λ b. Keeps (rest_by b r') taken) (sym lost) ∣ (tt, tt) ∣₁
+close_kept (Some m) told told' r r' held taken n state hand same closed none sound =
+    close_call _ _ held taken n state m (hand_by told r (Some n) hand)
+    (becomes_by (closed_at n state held m) told told' r r' same (closed m refl)) none sound
+
+rest_same : (told told' : Bool) (r r' : RunRecord) → told' ≡ told → r' ≡ r → rest_by told' r' ≡ rest_by told r
+rest_same told told' r r' a b = ap (λ t. rest_by t r') a ∙ ap (rest_by told) b
+
+pub idle_kept : (failures : Option ℕ) (told told' : Bool) (r r' : RunRecord) (held taken : List ℕ) → r.in_hand ≡ None
+    → IsKnown failures told told' → r' ≡ r → taken ≡ [] → Keeps (rest_by told r) held → Keeps (rest_by told' r') taken
+idle_kept None told told' r r' held taken hand lost is none sound =
+    subst (λ b. Keeps (rest_by b r') taken) (sym lost) ∣ (tt, tt) ∣₁
+idle_kept (Some m) told told' r r' held taken hand same is none sound =
+    idle_call _ _ held taken (hand_by told r None hand) (rest_same told told' r r' same is) none sound
+
+-- nothing was in hand, and an output was given up that never was
+pub given_up : (failures failures' : Option ℕ) (told told1 told2 : Bool) (r r1 r2 : RunRecord) (held : List ℕ) (n : ℕ)
+    → IsKnown failures told told1 → r1 ≡ r → held ≡ [] → failures' ≡ Some 0 → IsKnown failures' told1 told2
+    → ((m : ℕ) → failures' ≡ Some m → r2 ≡ closed_at n GivenUp held m r1)
+    → Becomes (closed_at n GivenUp [] 0) (rest_by told r) (rest_by told2 r2)
+given_up failures None told told1 told2 r r1 r2 held n known same none zero after closed = absurd (cc)
+given_up failures (Some m) told told1 told2 r r1 r2 held n known same none zero after closed =
+    becomes_or_lost (closed_at n GivenUp [] 0) failures told told2 r r2
+    (subst (IsKnown failures told) (sym after) known)
+    (closed 0 zero ∙ ap (λ l. closed_at n GivenUp l 0 r1) none ∙ ap (closed_at n GivenUp [] 0) same)
+
+-- what a second reading gives may be opened there, as far as its chunks are checked
+pub checked_may : (rest : Option RunRecord) (place : ℕ) (key header last : List ℕ)
+    → IfSome rest (λ was. (left : List ℕ) × (Some last ≡ Some left) × MayHold place (Checked key header left) was)
+    → IfSome rest (MayHold place (Checked key header last))
+checked_may None place key header last may = tt
+checked_may (Some r) place key header last (left, same, may) =
+    let is : left ≡ last = cc in subst (λ l. MayHold place (Checked key header l) r) is may

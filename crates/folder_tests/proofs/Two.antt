@@ -3,8 +3,8 @@ use Rattle.std.proofs.Common.{◌≡◌, ◌∙◌, ℕ, List, Option, None, Som
 use Rattle.std.specs.Prelude.{IfSome}
 use Rattle.container_core.specs.Shape.{ShapeView, one}
 use Rattle.journal_core.specs.Range.{range_of}
-use Rattle.folder_core.specs.Record.{Container, Created, Finished, RunRecord, State}
-use Rattle.folder_core.specs.Changes.{Becomes, Closes, MayBegin, allowed, closed, new_output, with_entry}
+use Rattle.folder_core.specs.Record.{Container, Content, Created, Finished, RunRecord, State}
+use Rattle.folder_core.specs.Changes.{Becomes, Closes, MayHold, allowed, closed, new_output, with_entry}
 use Rattle.folder_tests.specs.Memory.{fresh}
 
 abbrev pub IsThis : RunRecord → Option RunRecord → Type 0
@@ -17,12 +17,12 @@ then_this f before (Some x) r is (was, known, changed) =
     let same : was ≡ r = subst (IsThis r) known is in
     subst (λ y. y ≡ f r) (sym changed) (ap f same)
 
-pub closes_this : (state : State) (before after : Option RunRecord) (taken : Option (List ℕ)) (r : RunRecord) → IsThis r before
-    → Closes state before taken after → IfSome after (λ x. (bytes : List ℕ) × (x ≡ closed state bytes r))
-closes_this state before None taken r is closes = tt
-closes_this state before (Some x) taken r is (was, bytes, known, had, changed) =
+pub closes_this : (state : State) (before after : Option RunRecord) (taken : Option (List ℕ)) (failures : Option ℕ) (r : RunRecord) → IsThis r before
+    → Closes state before taken failures after → IfSome after (λ x. (bytes : List ℕ) × (n : ℕ) × (x ≡ closed state bytes n r))
+closes_this state before None taken failures r is closes = tt
+closes_this state before (Some x) taken failures r is (was, bytes, n, known, had, count, changed) =
     let same : was ≡ r = subst (IsThis r) known is in
-    (bytes, subst (λ y. y ≡ closed state bytes r) (sym changed) (ap (closed state bytes) same))
+    (bytes, n, subst (λ y. y ≡ closed state bytes n r) (sym changed) (ap (closed state bytes n) same))
 
 -- a fact that was known as long as the record was
 pub still : (P : Type 0) (f : RunRecord → RunRecord) (before after : Option RunRecord) → IfSome before (λ _. P)
@@ -30,47 +30,45 @@ pub still : (P : Type 0) (f : RunRecord → RunRecord) (before after : Option Ru
 still P f before None p becomes = tt
 still P f before (Some x) p (was, known, changed) = subst (λ b. IfSome b (λ _. P)) known p
 
-pub closes_still : (P : Type 0) (state : State) (before after : Option RunRecord) (taken : Option (List ℕ)) → IfSome before (λ _. P)
-    → Closes state before taken after → IfSome after (λ _. P)
-closes_still P state before None taken p closes = tt
-closes_still P state before (Some x) taken p (was, bytes, known, had, changed) = subst (λ b. IfSome b (λ _. P)) known p
+pub closes_still : (P : Type 0) (state : State) (before after : Option RunRecord) (taken : Option (List ℕ)) (failures : Option ℕ) → IfSome before (λ _. P)
+    → Closes state before taken failures after → IfSome after (λ _. P)
+closes_still P state before None taken failures p closes = tt
+closes_still P state before (Some x) taken failures p (was, bytes, n, known, had, count, changed) = subst (λ b. IfSome b (λ _. P)) known p
 
 pub place_this : (rest : Option RunRecord) (r : RunRecord) (place : ℕ) → IsThis r rest → IfSome rest (λ was. place ≡ length was.entries)
     → IfSome rest (λ _. place ≡ length r.entries)
 place_this None r place is at = tt
 place_this (Some x) r place is at = subst (λ y. place ≡ length y.entries) is at
 
-pub may_this : (rest : Option RunRecord) (r : RunRecord) (place n number : ℕ) (s : ShapeView) → IsThis r rest
-    → IfSome rest (λ _. place ≡ n) → MayBegin n number s r → IfSome rest (MayBegin place number s)
-may_this None r place n number s is at may = tt
-may_this (Some x) r place n number s is at may =
-    subst (λ p. MayBegin p number s x) (sym at) (subst (MayBegin n number s) (sym is) may)
+pub may_this : (rest : Option RunRecord) (r : RunRecord) (place n : ℕ) (content : Content) → IsThis r rest
+    → IfSome rest (λ _. place ≡ n) → MayHold n content r → IfSome rest (MayHold place content)
+may_this None r place n content is at may = tt
+may_this (Some x) r place n content is at may =
+    subst (λ p. MayHold p content x) (sym at) (subst (MayHold n content) (sym is) may)
 
-pub may_those : (rest : Option RunRecord) (make : List ℕ → RunRecord) (place n number : ℕ) (s : ShapeView)
-    → IfSome rest (λ x. (bytes : List ℕ) × (x ≡ make bytes)) → IfSome rest (λ _. place ≡ n)
-    → ((bytes : List ℕ) → MayBegin n number s (make bytes)) → IfSome rest (MayBegin place number s)
-may_those None make place n number s is at may = tt
-may_those (Some x) make place n number s (bytes, is) at may =
-    subst (λ p. MayBegin p number s x) (sym at) (subst (MayBegin n number s) (sym is) (may bytes))
+pub may_those : (rest : Option RunRecord) (make : List ℕ → ℕ → RunRecord) (place n : ℕ) (content : Content)
+    → IfSome rest (λ x. (bytes : List ℕ) × (m : ℕ) × (x ≡ make bytes m)) → IfSome rest (λ _. place ≡ n)
+    → ((bytes : List ℕ) (m : ℕ) → MayHold n content (make bytes m)) → IfSome rest (MayHold place content)
+may_those None make place n content is at may = tt
+may_those (Some x) make place n content (bytes, m, is) at may =
+    subst (λ p. MayHold p content x) (sym at) (subst (MayHold n content) (sym is) (may bytes m))
 
 -- ---- the records of this test
 
 abbrev pub both : List ℕ → List ℕ → List ℕ → RunRecord
 both key a b = with_entry (Created (new_output b)) (with_entry (Created (new_output a)) (fresh key (range_of 1 3 2)))
 
-pub may_first : (key a b : List ℕ) → MayBegin 0 3 one (both key a b)
+pub may_first : (key a b : List ℕ) → MayHold 0 (Container 3 one) (both key a b)
 may_first key a b = record {
   new = record { name = a; idle = refl; there = refl };
-  is_shape = refl;
-  of_range = (omega arith, omega arith);
+  allowed = (refl, (omega arith, omega arith));
   free = refl;
 }
 
-pub may_second : (key a b bytes : List ℕ) → MayBegin 1 4 one (closed Finished bytes (allowed 0 (Container 3 one) (both key a b)))
-may_second key a b bytes = record {
+pub may_second : (key a b bytes : List ℕ) (n : ℕ) → MayHold 1 (Container 4 one) (closed Finished bytes n (allowed 0 (Container 3 one) (both key a b)))
+may_second key a b bytes n = record {
   new = record { name = b; idle = refl; there = refl };
-  is_shape = refl;
-  of_range = (omega arith, omega arith);
+  allowed = (refl, (omega arith, omega arith));
   free = refl;
 }
 
@@ -94,10 +92,10 @@ first_at key a b r0 r1 r2 place start first at second =
 
 pub first_may : (key a b : List ℕ) (r0 r1 r2 : Option RunRecord) (place : ℕ) (s : ShapeView) → r0 ≡ Some (fresh key (range_of 1 3 2))
     → Becomes (with_entry (Created (new_output a))) r0 r1 → IfSome r0 (λ was. place ≡ length was.entries)
-    → Becomes (with_entry (Created (new_output b))) r1 r2 → s ≡ one → IfSome r2 (MayBegin place 3 s)
+    → Becomes (with_entry (Created (new_output b))) r1 r2 → s ≡ one → IfSome r2 (MayHold place (Container 3 s))
 first_may key a b r0 r1 r2 place s start first at second shape =
-    subst (λ x. IfSome r2 (MayBegin place 3 x)) (sym shape)
-    (may_this r2 (both key a b) place 0 3 one (two_this key a b r0 r1 r2 start first second)
+    subst (λ x. IfSome r2 (MayHold place (Container 3 x))) (sym shape)
+    (may_this r2 (both key a b) place 0 (Container 3 one) (two_this key a b r0 r1 r2 start first second)
     (first_at key a b r0 r1 r2 place start first at second) (may_first key a b))
 
 hand_this : (key a b : List ℕ) (r0 r1 r2 r3 : Option RunRecord) (place : ℕ) (s : ShapeView) → r0 ≡ Some (fresh key (range_of 1 3 2))
@@ -112,13 +110,13 @@ hand_this key a b r0 r1 r2 (Some x) place s start first at second shape taken =
     is ∙ ap (λ w. allowed place (Container 3 s) w) same ∙ ap (λ p. allowed p (Container 3 s) (both key a b)) here
     ∙ ap (λ z. allowed 0 (Container 3 z) (both key a b)) shape
 
-pub second_may : (key a b : List ℕ) (r0 r1 r2 r3 r4 r5 : Option RunRecord) (taken : Option (List ℕ)) (place other : ℕ) (s : ShapeView)
+pub second_may : (key a b : List ℕ) (r0 r1 r2 r3 r4 r5 : Option RunRecord) (taken : Option (List ℕ)) (failures : Option ℕ) (place other : ℕ) (s : ShapeView)
     → r0 ≡ Some (fresh key (range_of 1 3 2))
     → Becomes (with_entry (Created (new_output a))) r0 r1 → IfSome r0 (λ was. place ≡ length was.entries)
     → Becomes (with_entry (Created (new_output b))) r1 r2 → IfSome r1 (λ was. other ≡ length was.entries)
-    → s ≡ one → Becomes (allowed place (Container 3 s)) r2 r3 → r4 ≡ r3 → Closes Finished r4 taken r5
-    → IfSome r5 (MayBegin other 4 s)
-second_may key a b r0 r1 r2 r3 r4 r5 taken place other s start first at second also shape hand same closes =
+    → s ≡ one → Becomes (allowed place (Container 3 s)) r2 r3 → r4 ≡ r3 → Closes Finished r4 taken failures r5
+    → IfSome r5 (MayHold other (Container 4 s))
+second_may key a b r0 r1 r2 r3 r4 r5 taken failures place other s start first at second also shape hand same closes =
     let this = hand_this key a b r0 r1 r2 r3 place s start first at second shape hand in
     let there : IfSome r1 (λ _. other ≡ 1) =
     place_this r1 (with_entry (Created (new_output a)) (fresh key (range_of 1 3 2))) other
@@ -127,8 +125,8 @@ second_may key a b r0 r1 r2 r3 r4 r5 taken place other s start first at second a
     let later : IfSome r3 (λ _. other ≡ 1) =
     still (other ≡ 1) (allowed place (Container 3 s)) r2 r3
     (still (other ≡ 1) (with_entry (Created (new_output b))) r1 r2 there second) hand in
-    subst (λ x. IfSome r5 (MayBegin other 4 x)) (sym shape)
-    (may_those r5 (λ bytes. closed Finished bytes (allowed 0 (Container 3 one) (both key a b))) other 1 4 one
-    (closes_this Finished r4 r5 taken (allowed 0 (Container 3 one) (both key a b)) (subst (IsThis _) (sym same) this) closes)
-    (closes_still (other ≡ 1) Finished r4 r5 taken (subst (λ r. IfSome r (λ _. other ≡ 1)) (sym same) later) closes)
+    subst (λ x. IfSome r5 (MayHold other (Container 4 x))) (sym shape)
+    (may_those r5 (λ bytes n. closed Finished bytes n (allowed 0 (Container 3 one) (both key a b))) other 1 (Container 4 one)
+    (closes_this Finished r4 r5 taken failures (allowed 0 (Container 3 one) (both key a b)) (subst (IsThis _) (sym same) this) closes)
+    (closes_still (other ≡ 1) Finished r4 r5 taken failures (subst (λ r. IfSome r (λ _. other ≡ 1)) (sym same) later) closes)
     (may_second key a b))

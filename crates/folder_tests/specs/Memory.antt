@@ -8,7 +8,7 @@ use Rattle.folder_tests.specs.declared.pages.File.{File}
 use Rattle.folder_tests.specs.declared.pages.Mark.{Mark}
 use Rattle.folder_tests.specs.declared.pages.Mark.TheVariants.{Open, Finished, GivenUp}
 use Rattle.folder_tests.specs.declared.pages.MemoryEntry.{MemoryEntry}
-use Rattle.folder_tests.specs.declared.pages.MemoryEntry.TheVariants.{Read, Unread, Refused, Created}
+use Rattle.folder_tests.specs.declared.pages.MemoryEntry.TheVariants.{Read, Unread, Repeated, Closed, Refused, Created}
 use Rattle.folder_tests.specs.declared.pages.Pages.{Pages}
 use Rattle.folder_tests.specs.Noted.{content_of}
 
@@ -22,13 +22,16 @@ output_of file = record {
   name = string_bytes file.name;
   content = content_of file.note.mark.me.0;
   bytes = file.bytes.items;
+  failures = file.failures;
   state = state_of file.mark;
 }
 
 abbrev pub entry_of : MemoryEntry → Entry
-entry_of (Read name bytes) = run.Read (string_bytes name) bytes.items
-entry_of (Unread name) = run.Unread (string_bytes name)
-entry_of (Refused name fault) = run.Refused (string_bytes name) fault
+entry_of (Read name bytes) = run.Happened (run.Read (string_bytes name) bytes.items)
+entry_of (Unread name) = run.Happened (run.Unread (string_bytes name))
+entry_of (Repeated name bytes) = run.Happened (run.Repeated (string_bytes name) bytes.items)
+entry_of (Closed name failures) = run.Happened (run.Closed (string_bytes name) failures)
+entry_of (Refused name fault) = run.Happened (run.Refused (string_bytes name) fault)
 entry_of (Created file) = run.Created (output_of file)
 
 -- The key and range that the folder was made with.
@@ -51,9 +54,9 @@ abbrev pub rest_of : Pages → Option RunRecord
 rest_of pages = rest_by pages.told (record_of pages)
 
 -- One more entry, if there was memory for it; else all is forgotten.
-abbrev pub Tells : Option MemoryEntry → Option RunRecord → Option RunRecord → Type 0
-Tells None before after = after ≡ None
-Tells (Some entry) before after = Becomes (with_entry (entry_of entry)) before after
+abbrev pub Notes : Option MemoryEntry → Option RunRecord → Option RunRecord → Type 0
+Notes None before after = after ≡ None
+Notes (Some entry) before after = Becomes (with_entry (entry_of entry)) before after
 
 -- The record of a run that did nothing yet.
 abbrev pub fresh : List ℕ → Numbers → RunRecord

@@ -4,19 +4,21 @@ use Rattle.atomic_table.specs.Table.{State, Me, Step}
 use Rattle.folder_core.specs.Record.{Content}
 use Rattle.folder_core.specs.Record as run
 use Rattle.folder_tests.specs.declared.note.Noted.{Noted}
-use Rattle.folder_tests.specs.declared.note.Noted.TheVariants.{Nothing, Container, Plain}
+use Rattle.folder_tests.specs.declared.note.Noted.TheVariants.{Nothing, Container, Plain, Checked}
 
 -- The content that is noted.
 abbrev pub content_of : Noted → Content
 content_of Nothing = run.Nothing
 content_of (Container number shape) = run.Container number shape
 content_of (Plain key whole) = run.Plain key whole
+content_of (Checked key header last) = run.Checked key header last
 
 -- The note of a content.
 abbrev pub noted : Content → Noted
 noted run.Nothing = Nothing
 noted (run.Container number shape) = Container number shape
 noted (run.Plain key whole) = Plain key whole
+noted (run.Checked key header last) = Checked key header last
 
 -- A new note says that an output may hold nothing yet.
 abbrev pub nothing : Unit {0} → Noted

@@ -6,9 +6,9 @@ ghost use Rattle.folder_core.specs.Changes.{allowed};
 ghost use Rattle.folder_tests.specs.Memory.{fresh, record_of, rest_of};
 
 use crate::note::Naming;
-use crate::pages::{Mark, Pages, created, read, refused, unread};
+use crate::pages::{Mark, Pages, closed, created, read, refused, repeated, unread};
 use crate::reader::MemoryReader;
-use container_core::Shape;
+use container_core::{Header, Key, Shape};
 use folder_core::{Folder, FolderFault, OpeningFolder, Outputs, Place, Whole};
 use io_core::Failed;
 use std::alloc::Global;
@@ -52,6 +52,8 @@ impl Outputs for MemoryFolder {
     ghost rest = { λ f. rest_of f.pages };
 
     ghost taken = { λ f. Some f.pages.taken.items };
+
+    ghost failures = { λ f. f.pages.failures };
 
     fn allow_container(&mut self, output: MemoryHandle, number: u32, shape: &Shape) {
         allow_number::<Brand>(&mut self.pages, output.place, number, shape);
@@ -99,6 +101,27 @@ impl Folder for MemoryFolder {
         }
     }
 
+    fn length(&self, reader: &MemoryReader) -> Option<u64> {
+        Some((reader.bytes.len() - reader.at) as u64)
+    }
+
+    fn can_repeat(&self, _reader: &MemoryReader) -> bool {
+        true
+    }
+
+    fn again(&mut self, name: &str, reader: &mut MemoryReader) -> Result<(), Failed> {
+        reader.at = 0;
+        let entry = repeated(self.pages.alloc, name, reader.bytes.as_slice());
+        self.pages.tell(entry);
+        Ok(())
+    }
+
+    fn close(&mut self, name: &str, reader: MemoryReader) {
+        let MemoryReader { bytes: _, at: _ } = reader;
+        let entry = closed(self.pages.alloc, name, 0);
+        self.pages.tell(entry);
+    }
+
     fn create(&mut self, name: &str) -> Result<MemoryHandle, FolderFault> {
         let alloc = self.pages.alloc;
         let place = self.pages.entries.len();
@@ -123,6 +146,16 @@ impl OpeningFolder for MemoryFolder {
     fn allow_plain<N: Whole>(&mut self, output: MemoryHandle) {
         self.pages.allow::<Brand>(output.place);
     }
+
+    fn allow_checked(
+        &mut self,
+        output: MemoryHandle,
+        key: &Key,
+        header: &Header,
+        reader: &MemoryReader,
+    ) {
+        allow_opened::<Brand>(&mut self.pages, output.place, key, header, reader);
+    }
 }
 
 // The output at this place is in hand, with the container of this number.
@@ -130,6 +163,23 @@ fn allow_number<N: Naming>(pages: &mut Pages, place: usize, _number: u32, _shape
     ensures told { pages.new.told ≡ pages.old.told }
     ensures allowed { record_of pages.new ≡ allowed place N.content (record_of pages.old) }
     ensures taken { pages.new.taken.items ≡ [] }
+    ensures failures { pages.new.failures ≡ Some 0 }
+{
+    pages.allow::<N>(place);
+}
+
+// The output at this place is in hand, with what is opened of what this reader gives.
+fn allow_opened<N: Naming>(
+    pages: &mut Pages,
+    place: usize,
+    _key: &Key,
+    _header: &Header,
+    _reader: &MemoryReader,
+)
+    ensures told { pages.new.told ≡ pages.old.told }
+    ensures allowed { record_of pages.new ≡ allowed place N.content (record_of pages.old) }
+    ensures taken { pages.new.taken.items ≡ [] }
+    ensures failures { pages.new.failures ≡ Some 0 }
 {
     pages.allow::<N>(place);
 }

@@ -14,6 +14,7 @@ pub enum Noted {
     Nothing,
     Container(u32, Shape),
     Plain(LinkedList<u8>, LinkedList<u8>),
+    Checked(LinkedList<u8>, LinkedList<u8>, LinkedList<u8>),
 }
 
 /// Any content may be noted.

@@ -1,11 +1,11 @@
-//! Two outputs are created. One is written and finished, the other is given up, and the first is read back.
+//! Two outputs are created. One is written and finished, the other is given up, and the first is read back, twice.
 use crate::memory::MemoryFolder;
 use container_core::{Key, Shape, seal};
 use folder_core::{Folder, Outputs};
 use io_core::read_to_limit;
 use std::alloc::Global;
 
-// Whether the first output has the container of this plaintext, and there is no second one.
+// Whether the first output has the container of this plaintext, at both readings, and there is no second one.
 fn two_outputs(alloc: Global, plain: &[u8]) -> Option<bool> {
     let key = Key::new([7; 32]);
     let shape = Shape::one();
@@ -33,10 +33,18 @@ fn two_outputs(alloc: Global, plain: &[u8]) -> Option<bool> {
     let Ok(mut reader) = folder.open("a.stm") else {
         return None;
     };
-    let Ok(read) = read_to_limit(alloc, &mut reader, Vec::new(alloc), 1 << 20, 0) else {
+    let Ok(first) = read_to_limit(alloc, &mut reader, Vec::new(alloc), 1 << 20, 0) else {
         return None;
     };
-    Some(read.as_slice() == sealed.as_slice() && folder.bytes("b.stm").is_none())
+    let Ok(()) = folder.again("a.stm", &mut reader) else {
+        return None;
+    };
+    let Ok(again) = read_to_limit(alloc, &mut reader, Vec::new(alloc), 1 << 20, 0) else {
+        return None;
+    };
+    folder.close("a.stm", reader);
+    let is_whole = first.as_slice() == sealed.as_slice() && again.as_slice() == sealed.as_slice();
+    Some(is_whole && folder.bytes("b.stm").is_none())
 }
 
 #[test]

@@ -1,11 +1,13 @@
 //! What a folder in memory holds: its entries, and what the output in hand took.
-ghost use Rattle.std.specs.Prelude.{◌≡◌, ◌⊎◌, ◌++◌, true, Some, None, [], length, IfOk, OnErr, IfSome, map, string_bytes};
+ghost use Rattle.std.specs.Prelude.{◌≡◌, ◌⊎◌, ◌++◌, ℕ, true, false, Some, None, [], length, IfOk, OnErr, IfSome, map};
+ghost use Rattle.std.specs.Prelude.{MatchOption, is_err, string_bytes};
+ghost use Rattle.io_core.specs.Streams.{counted};
 ghost use Rattle.folder_core.specs.Record.{RunRecord};
 ghost use Rattle.folder_core.specs.Record as run;
 ghost use Rattle.folder_core.specs.Changes.{allowed, change, changed, closed_at, new_output, set_closed, set_content};
 ghost use Rattle.folder_core.specs.Changes.{with_entry};
 ghost use Rattle.journal_core.specs.Range.{range_of};
-ghost use Rattle.folder_tests.specs.Memory.{Tells, entry_of, fresh, record_of, rest_of, state_of};
+ghost use Rattle.folder_tests.specs.Memory.{Notes, entry_of, fresh, record_of, rest_of, state_of};
 
 use crate::note::{ContentNote, Naming};
 use folder_core::FolderFault;
@@ -25,6 +27,7 @@ pub enum Mark {
 pub struct File {
     pub(crate) name: String,
     pub(crate) bytes: Vec<u8>,
+    pub(crate) failures: u64,
     pub(crate) mark: Mark,
     pub(crate) note: ContentNote,
 }
@@ -34,11 +37,14 @@ pub struct File {
 pub enum MemoryEntry {
     Read(String, Vec<u8>),
     Unread(String),
+    Repeated(String, Vec<u8>),
+    Closed(String, u64),
     Refused(String, FolderFault),
     Created(File),
 }
 
-/// Key and range, what happened so far (unless that was forgotten), and what the output in hand took.
+/// Key and range, what happened so far (unless that was forgotten), what the output in hand took, and how many writes to
+/// it failed, if that is known.
 #[derive(Drop)]
 pub struct Pages {
     pub(crate) alloc: Global,
@@ -50,6 +56,7 @@ pub struct Pages {
     pub(crate) entries: Vec<MemoryEntry>,
     pub(crate) in_hand: Option<usize>,
     pub(crate) taken: Vec<u8>,
+    pub(crate) failures: Option<u64>,
 }
 
 impl MemoryEntry {
@@ -62,12 +69,13 @@ impl MemoryEntry {
         }
     }
 
-    // If it is an output, it is closed with these bytes.
-    fn shut(&mut self, bytes: Vec<u8>, mark: Mark)
-        ensures { entry_of self.new ≡ changed (set_closed (state_of mark) bytes.items) (entry_of self.old) }
+    // If it is an output, it is closed with these bytes, after so many failed writes.
+    fn shut(&mut self, bytes: Vec<u8>, failures: u64, mark: Mark)
+        ensures { entry_of self.new ≡ changed (set_closed (state_of mark) bytes.items failures) (entry_of self.old) }
     {
         if let MemoryEntry::Created(file) = self {
             file.bytes = bytes;
+            file.failures = failures;
             file.mark = mark;
         }
     }
@@ -79,6 +87,7 @@ impl Pages {
         ensures empty { map entry_of result.entries.items ≡ [] }
         ensures idle { result.in_hand ≡ None }
         ensures taken { result.taken.items ≡ [] }
+        ensures failures { result.failures ≡ Some 0 }
         ensures rest { rest_of result ≡ Some (fresh secret (range_of device lo size)) }
     {
         Pages {
@@ -91,13 +100,15 @@ impl Pages {
             entries: Vec::new(alloc),
             in_hand: None,
             taken: Vec::new(alloc),
+            failures: Some(0),
         }
     }
 
     // One more entry, if there was memory for it. Else all is forgotten.
     pub(crate) fn tell(&mut self, entry: Option<MemoryEntry>)
-        ensures told { Tells entry (rest_of self.old) (rest_of self.new) }
+        ensures told { Notes entry (rest_of self.old) (rest_of self.new) }
         ensures taken { self.new.taken ≡ self.old.taken }
+        ensures failures { self.new.failures ≡ self.old.failures }
     {
         self.told = match entry {
             Some(entry) => self.told && self.entries.push(entry).is_ok(),
@@ -110,10 +121,12 @@ impl Pages {
         ensures told { self.new.told ≡ self.old.told }
         ensures allowed { record_of self.new ≡ allowed place N.content (record_of self.old) }
         ensures taken { self.new.taken.items ≡ [] }
+        ensures failures { self.new.failures ≡ Some 0 }
     {
         hold::<N>(&mut self.entries, place);
         self.in_hand = Some(place);
         self.taken = Vec::new(self.alloc);
+        self.failures = Some(0);
     }
 
     // More was taken, unless memory is refused.
@@ -124,33 +137,51 @@ impl Pages {
         ensures err { OnErr result (self.new.taken.items ≡ self.old.taken.items) }
         ensures either { (self.new.taken.items ≡ self.old.taken.items ++ bytes.now)
             ⊎ (self.new.taken.items ≡ self.old.taken.items) }
+        ensures count { self.new.failures ≡ counted (is_err result) self.old.failures }
     {
         match self.taken.extend_from_slice(bytes) {
             Ok(()) => Ok(bytes.len()),
-            Err(_) => Err(Failed),
+            Err(_) => {
+                self.failures = match self.failures {
+                    Some(count) => count.checked_add(1),
+                    None => None,
+                };
+                Err(Failed)
+            }
         }
     }
 
-    // The output at this place is closed, with what was taken.
+    // The output at this place is closed, with what was taken. All is forgotten if it isn't known how many writes failed.
     pub(crate) fn close(&mut self, place: usize, mark: Mark)
-        ensures told { self.new.told ≡ self.old.told }
-        ensures closed { record_of self.new
-            ≡ closed_at place (state_of mark) self.old.taken.items (record_of self.old) }
+        ensures told { MatchOption self.old.failures (self.new.told ≡ false) (λ n. self.new.told ≡ self.old.told) }
+        ensures closed { (n : ℕ) → self.old.failures ≡ Some n → record_of self.new
+            ≡ closed_at place (state_of mark) self.old.taken.items n (record_of self.old) }
         ensures taken { self.new.taken.items ≡ [] }
+        ensures failures { self.new.failures ≡ Some 0 }
     {
         let bytes = std::mem::replace(&mut self.taken, Vec::new(self.alloc));
-        shut(&mut self.entries, place, bytes, mark);
+        let failures = match self.failures {
+            Some(count) => count,
+            None => {
+                self.told = false;
+                0
+            }
+        };
+        shut(&mut self.entries, place, bytes, failures, mark);
         self.in_hand = None;
+        self.failures = Some(0);
     }
 
-    // Nothing was taken.
+    // Nothing is in hand. All is forgotten if it isn't known how many writes failed.
     pub(crate) fn clear(&mut self)
-        ensures rest { rest_of self.new ≡ rest_of self.old }
-        ensures told { self.new.told ≡ self.old.told }
+        ensures told { MatchOption self.old.failures (self.new.told ≡ false) (λ n. self.new.told ≡ self.old.told) }
         ensures record { record_of self.new ≡ record_of self.old }
         ensures taken { self.new.taken.items ≡ [] }
+        ensures failures { self.new.failures ≡ Some 0 }
     {
+        self.told = self.told && self.failures.is_some();
         self.taken = Vec::new(self.alloc);
+        self.failures = Some(0);
     }
 
     // The bytes of the finished output of this name.
@@ -177,18 +208,18 @@ fn hold<N: Naming>(entries: &mut Vec<MemoryEntry>, place: usize)
 }
 
 // The output at this place is closed with these bytes.
-fn shut(entries: &mut Vec<MemoryEntry>, place: usize, bytes: Vec<u8>, mark: Mark)
+fn shut(entries: &mut Vec<MemoryEntry>, place: usize, bytes: Vec<u8>, failures: u64, mark: Mark)
     ensures { map entry_of entries.new.items
-        ≡ change place (set_closed (state_of mark) bytes.items) (map entry_of entries.old.items) }
+        ≡ change place (set_closed (state_of mark) bytes.items failures) (map entry_of entries.old.items) }
 {
     if let Some(entry) = entries.get_mut(place) {
-        entry.shut(bytes, mark);
+        entry.shut(bytes, failures, mark);
     }
 }
 
 // A file that was read, if there is memory for the entry.
 pub(crate) fn read(alloc: Global, name: &str, bytes: &[u8]) -> Option<MemoryEntry>
-    ensures { IfSome result (λ e. entry_of e ≡ run.Read name.now bytes.now) }
+    ensures { IfSome result (λ e. entry_of e ≡ run.Happened (run.Read name.now bytes.now)) }
 {
     let name = String::from_str(alloc, name).ok()?;
     let bytes = Vec::from_slice(alloc, bytes).ok()?;
@@ -197,15 +228,32 @@ pub(crate) fn read(alloc: Global, name: &str, bytes: &[u8]) -> Option<MemoryEntr
 
 // A file that couldn't be opened, if there is memory for the entry.
 pub(crate) fn unread(alloc: Global, name: &str) -> Option<MemoryEntry>
-    ensures { IfSome result (λ e. entry_of e ≡ run.Unread name.now) }
+    ensures { IfSome result (λ e. entry_of e ≡ run.Happened (run.Unread name.now)) }
 {
     let name = String::from_str(alloc, name).ok()?;
     Some(MemoryEntry::Unread(name))
 }
 
+// A file that is read again, if there is memory for the entry.
+pub(crate) fn repeated(alloc: Global, name: &str, bytes: &[u8]) -> Option<MemoryEntry>
+    ensures { IfSome result (λ e. entry_of e ≡ run.Happened (run.Repeated name.now bytes.now)) }
+{
+    let name = String::from_str(alloc, name).ok()?;
+    let bytes = Vec::from_slice(alloc, bytes).ok()?;
+    Some(MemoryEntry::Repeated(name, bytes))
+}
+
+// A file that was closed, if there is memory for the entry.
+pub(crate) fn closed(alloc: Global, name: &str, failures: u64) -> Option<MemoryEntry>
+    ensures { IfSome result (λ e. entry_of e ≡ run.Happened (run.Closed name.now failures)) }
+{
+    let name = String::from_str(alloc, name).ok()?;
+    Some(MemoryEntry::Closed(name, failures))
+}
+
 // An output that was refused, if there is memory for the entry.
 pub(crate) fn refused(alloc: Global, name: &str, fault: FolderFault) -> Option<MemoryEntry>
-    ensures { IfSome result (λ e. entry_of e ≡ run.Refused name.now fault) }
+    ensures { IfSome result (λ e. entry_of e ≡ run.Happened (run.Refused name.now fault)) }
 {
     let name = String::from_str(alloc, name).ok()?;
     Some(MemoryEntry::Refused(name, fault))
@@ -222,6 +270,7 @@ pub(crate) fn created(alloc: Global, name: &str) -> Option<MemoryEntry>
     Some(MemoryEntry::Created(File {
         name,
         bytes,
+        failures: 0,
         mark,
         note,
     }))

@@ -1,7 +1,6 @@
 //! A reader of a file in memory.
 ghost use Rattle.std.specs.Prelude.{◌≡◌, ◌≤◌, Some, drop, length};
 
-use folder_core::FileReader;
 use io_core::{Failed, Source};
 
 /// A reader of the bytes that a file had when it was opened.
@@ -15,23 +14,13 @@ pub struct MemoryReader {
 impl Source for MemoryReader {
     ghost left = { λ r. Some (drop r.at r.bytes.items) };
 
+    // No call fails.
+    ghost failures = { λ _. Some 0 };
+
     fn read(&mut self, buffer: &mut [u8]) -> Result<usize, Failed> {
-        self.read_on(buffer)
-    }
-}
-
-impl FileReader for MemoryReader {
-    ghost whole = { λ r. Some r.bytes.items };
-
-    fn read_on(&mut self, buffer: &mut [u8]) -> Result<usize, Failed> {
         let n = buffer.len().min(self.bytes.len() - self.at);
         buffer[..n].copy_from_slice(&self.bytes.as_slice()[self.at..self.at + n]);
         self.at += n;
         Ok(n)
-    }
-
-    fn again(&mut self) -> Result<(), Failed> {
-        self.at = 0;
-        Ok(())
     }
 }

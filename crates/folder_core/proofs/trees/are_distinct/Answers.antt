@@ -1,4 +1,4 @@
-use Rattle.std.proofs.Common.{List, [], ◌<◌, ◌≡◌, ℕ, Bor, map, length, get_or, string_bytes, sym, subst, rules, arith, ap, ◌∙◌}
+use Rattle.std.proofs.Common.{[], ◌<◌, ◌≡◌, map, length, get_or, string_bytes, sym, subst, rules, arith, ap, ◌∙◌}
 use Rattle.std.proofs.lemmas.List.{length-map, get_or-map}
 use Rattle.folder_core.proofs.Distinct.{SeenUpTo, none_seen, one_seen, seen_before, all_seen}
 use Rattle.folder_core.proofs.trees.are_distinct.Goals as goal

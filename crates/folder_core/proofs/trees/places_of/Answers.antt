@@ -1,4 +1,4 @@
-use Rattle.std.proofs.Common.{◌≡◌, ◌++◌, ◌∷◌, ◌+◌, ◌<◌, ℕ, suc, [], None, Some, List, Bor, Option, map, option_map, string_bytes, take, rules, ap, arith, sym, ◌∙◌, length, get_or, subst}
+use Rattle.std.proofs.Common.{◌≡◌, ◌++◌, ◌∷◌, ◌<◌, ℕ, [], None, Some, List, Bor, map, option_map, string_bytes, rules, ap, arith, sym, ◌∙◌, length, get_or, subst}
 use Rattle.std.proofs.lemmas.List.{get_or-map, length-map, map-append}
 use Rattle.folder_core.specs.Trees.{place, steps}
 use Rattle.folder_core.proofs.Parts.{no_place, one_place}

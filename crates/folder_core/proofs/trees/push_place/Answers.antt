@@ -1,4 +1,4 @@
-use Rattle.std.proofs.Common.{string_bytes, rules, refl, ap, ◌∙◌}
+use Rattle.std.proofs.Common.{string_bytes, rules}
 use Rattle.folder_core.proofs.Parts.{end_named, end_nothing, end_up, one_read, up_read}
 use Rattle.folder_core.proofs.trees.push_place.Goals as goal
 

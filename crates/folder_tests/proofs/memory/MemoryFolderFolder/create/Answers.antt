@@ -2,13 +2,13 @@ use Rattle.std.proofs.Common.{[], ap, refl}
 use Rattle.folder_core.specs.Record.{Created, Refused}
 use Rattle.folder_core.specs.Changes.{new_output}
 use Rattle.folder_core.specs.declared.fault.FolderFault.TheVariants.{Exists}
-use Rattle.folder_core.proofs.Calls.{entry_call}
+use Rattle.folder_core.proofs.Calls.{entry_call, event_call}
 use Rattle.folder_tests.proofs.Known.{tells_becomes}
 use Rattle.folder_tests.proofs.memory.MemoryFolderFolder.create.Goals as goal
 
 pub invariant_of-self : goal.invariant_of-self
 invariant_of-self c = record {
-  sound = entry_call (Refused c.args.name.now Exists) _ _ _ _ refl (λ under l. tt) (λ number. refl)
+  sound = event_call (Refused c.args.name.now Exists) _ _ _ _
       (tells_becomes _ _ _ _ c.refused-entry.ensures c.tell.ensures.told) (ap (λ (v : _). v.items) c.tell.ensures.taken)
       c.args.self.now.sound;
 }
