@@ -754,6 +754,24 @@ sealed files/b file 1 bytes 1492' ''
     is workers-of-what-is-refused test "$status $(grep -c 'clone3\?(' calls)" = '1 3'
     started unpipe - < <(cat files/g5.stm)
     is workers-of-five-bytes test "$status $(grep -c 'clone3\?(' calls)" = '0 0'
+    # Without room for their stacks the caller's thread goes on alone: within what one worker needs all pass that it passes.
+    for bytes in 5000000 20000000; do head -c $bytes /dev/zero > "files/g$bytes"; done
+    run seal --key "$key" --ledger files/l --device 1 files/g5000000 files/g20000000
+    rm files/g5000000 files/g20000000
+    mkdir files/open
+    within() { (ulimit -v "$1"; exec "$sealer" "${@:2}") > out 2> err; status=$?; rm -f files/open/*; }
+    for limit in $(seq 8000 1500 44000); do
+        for words in 'verify files/g5000000.stm files/g20000000.stm' 'open --into files/open files/g20000000.stm'; do
+            read -ra words <<< "$words"
+            within "$limit" "${words[0]}" --key "$key" "${words[@]:1}"
+            [ $status = 0 ] || continue
+            for workers in 4 16; do
+                within "$limit" "${words[0]}" --key "$key" --workers $workers "${words[@]:1}"
+                is "workers-within $limit $workers ${words[0]}" test $status = 0
+            done
+        done
+    done
+    rm -r files/open
     # The memory of one file serves the next: the system isn't asked for more, or given some back, for each file (threads have stacks besides).
     fresh
     for at in 1 2 3 4 5 6 7 8; do head -c 3000000 /dev/zero > "files/f$at"; done
