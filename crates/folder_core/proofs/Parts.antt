@@ -49,9 +49,6 @@ either_way false ps = refl
 abbrev pub IsReadUpTo : List ℕ → List ℕ → List ℕ → List ℕ → Type 0
 IsReadUpTo path rest old new = (done : List (List ℕ)) × (parts path ≡ done ++ parts rest) × (list_any is_up done ≡ false) × (new ≡ old ++ steps (named done))
 
-pub none_read : (path old : List ℕ) → IsReadUpTo path path old old
-none_read path old = ([], refl, refl, sym (append-nil old))
-
 pub one_read : (path rest part more old new next : List ℕ) → IsReadUpTo path rest old new → rest ≡ part ++ 47 ∷ more → All (λ byte. byte ≢ 47) part
     → part ≢ codes ".." → next ≡ new ++ steps (named (part ∷ [])) → IsReadUpTo path more old next
 one_read path rest part more old new next (done, whole, down, is) cut apart other added =

@@ -161,11 +161,6 @@ pub event_kept : (r : RunRecord) (event : Event) (taken : Option (List ℕ)) →
     → IsSoundWith (Some (with_entry (Happened event) r)) taken
 event_kept r event taken both = entry_kept r (Happened event) taken refl tt (λ number. refl) both
 
-pub created_kept : (r : RunRecord) (name : List ℕ) (taken : Option (List ℕ)) → IsSoundWith (Some r) taken
-    → IsSoundWith (Some (with_entry (Created (new_output name)) r)) taken
-created_kept r name taken both =
-    entry_kept r (Created (new_output name)) taken refl (tt, ([], refl)) (λ number. refl) both
-
 -- an output was taken in hand
 taken_kept : (r : RunRecord) (n : ℕ) (content : Content) → (new : IsNew n r) → IsAllowed r.under r.entries content
     → ((number : ℕ) → times_begun number (change n (set_content content) r.entries) ≤ 1) → IsSound r

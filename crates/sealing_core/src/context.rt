@@ -8,8 +8,8 @@ use claim_core::Gate;
 use container_core::{Header, Key, TAG};
 use std::marker::PhantomData;
 
-/// The key, the header and the plan of a container, what is written before its first block, and the gate that is passed
-/// before a chunk is sealed.
+/// The key, the header and the plan of a container, what is written right before its first block, and the gate that is
+/// passed before a chunk is sealed.
 #[derive(Drop)]
 pub(crate) struct SealingContext<'a, N: Naming, G: Gate> {
     pub(crate) key: &'a Key,

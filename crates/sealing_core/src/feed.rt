@@ -95,8 +95,10 @@ fn run_rounds<N: Naming, T: Wait, R: Source, W: Output, G: Gate>(
     requires fresh { early.old.written ≡ 0 }
     requires may { (plain : List ℕ)
         → Admits (W.bound writer.old) (W.taken writer.old) (behind context.now.front.now N.key N.header plain) }
-    ensures into { IsPassOf queues.now.jobs.now hands.new.into × ((view hands.new.into).parts ≡ (view hands.old.into).parts) }
-    ensures from { IsPassOf queues.now.pieces.now hands.new.from × ((view hands.new.from).parts ≡ (view hands.old.from).parts) }
+    ensures into { IsPassOf queues.now.jobs.now hands.new.into
+        × ((view hands.new.into).parts ≡ (view hands.old.into).parts) }
+    ensures from { IsPassOf queues.now.pieces.now hands.new.from
+        × ((view hands.new.from).parts ≡ (view hands.old.from).parts) }
     ensures all { IfOk result (λ all. all ≡ true
         → IsUnderWay N.each N.key N.header N.told (R.left reader.new) context.now.plan
         early.new (view hands.new.into) (view hands.new.from) round.new
@@ -199,13 +201,16 @@ pub(crate) fn feed<N: Naming, T: Wait, R: Source, W: Output, G: Gate>(
     requires plan { IsPlan N.each N.header context.now.plan }
     requires read { IsRead N.each N.key N.header N.told (R.left reader.old) context.now.plan round.old }
     requires bells { 0 < length queues.now.bells.now }
-    requires into { IsPassOf queues.now.jobs.now hands.old.into × (0 < (view hands.old.into).parts) × ((view hands.old.into).put ≡ []) }
+    requires into { IsPassOf queues.now.jobs.now hands.old.into × (0 < (view hands.old.into).parts)
+        × ((view hands.old.into).put ≡ []) }
     requires from { IsPassOf queues.now.pieces.now hands.old.from × (0 < (view hands.old.from).parts)
         × ((view hands.old.from).put ≡ []) }
     requires may { (plain : List ℕ)
         → Admits (W.bound writer.old) (W.taken writer.old) (behind context.now.front.now N.key N.header plain) }
-    ensures into { IsPassOf queues.now.jobs.now hands.new.into × ((view hands.new.into).parts ≡ (view hands.old.into).parts) }
-    ensures from { IsPassOf queues.now.pieces.now hands.new.from × ((view hands.new.from).parts ≡ (view hands.old.from).parts) }
+    ensures into { IsPassOf queues.now.jobs.now hands.new.into
+        × ((view hands.new.into).parts ≡ (view hands.old.into).parts) }
+    ensures from { IsPassOf queues.now.pieces.now hands.new.from
+        × ((view hands.new.from).parts ≡ (view hands.old.from).parts) }
     ensures sealed { HasSealedRounds context.now.front.now N.key N.header (context.now.plan.limit - 1)
         (context.now.plan.group * N.each) N.told (R.left reader.new) (R.failures reader.old) (R.failures reader.new)
         (W.taken writer.old) (W.taken writer.new) (W.failures writer.old) (W.failures writer.new) result }

@@ -170,7 +170,7 @@ pub(crate) struct Queues<'a, N: Naming> {
     pub(crate) bells: &'a [Parker],
 }
 
-/// The passes of the caller's thread: into the queue of jobs, and from the queue of pieces.
+/// The passes of the caller's thread, into the queue of jobs and from the queue of pieces; at the end those of all workers.
 #[derive(Drop)]
 pub(crate) struct Hands {
     pub(crate) into: Pass<Task, Hand>,

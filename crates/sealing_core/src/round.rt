@@ -23,8 +23,7 @@ use std::collections::VecDeque;
 
 /// How an input is sealed. At most `limit` bytes of it are read; the last of these is one too many. It is cut into
 /// blocks of `each` chunks, and at most `depth` blocks are read and not yet written. Full blocks are put in groups of
-/// `group`. If `eager`, what was put may be written at once. Otherwise it may
-/// be written once the next group is put.
+/// `group`. If `eager`, what was put may be written at once; otherwise once the next group is put.
 #[derive(Clone, Copy)]
 pub(crate) struct Plan {
     pub(crate) limit: u64,

@@ -61,13 +61,14 @@ fn meet<N: Naming>(
     theirs: Pass<Task, Hand>,
     back: Pass<Piece, Hand>,
 )
-    requires ours { IsPassOf jobs.now hands.old.into × (0 < (view hands.old.into).parts) × IsPassOf pieces.now hands.old.from
-        × (0 < (view hands.old.from).parts) }
+    requires ours { IsPassOf jobs.now hands.old.into × (0 < (view hands.old.into).parts)
+        × IsPassOf pieces.now hands.old.from × (0 < (view hands.old.from).parts) }
     requires theirs { IsPassOf jobs.now theirs × IsPassOf pieces.now back × HasRelayed 1 (view theirs) (view back) }
     ensures passes { IsPassOf jobs.now hands.new.into × IsPassOf pieces.now hands.new.from }
     ensures parts { ((view hands.new.into).parts ≡ (view hands.old.into).parts + 1)
         × ((view hands.new.from).parts ≡ (view hands.old.from).parts + 1) }
-    ensures all { (n : ℕ) → HasAll n (view hands.old.into) (view hands.old.from) → HasAll n (view hands.new.into) (view hands.new.from) }
+    ensures all { (n : ℕ) → HasAll n (view hands.old.into) (view hands.old.from)
+        → HasAll n (view hands.new.into) (view hands.new.from) }
 {
     jobs.absorb::<Cut>(&mut hands.into, theirs);
     pieces.absorb::<Cut>(&mut hands.from, back);
@@ -96,8 +97,10 @@ fn crew<N: Naming + Send + Sync, T: Threads + Wait + Sync, R: Source, W: Output,
         × ((view hands.old.from).put ≡ []) }
     requires may { (plain : List ℕ)
         → Admits (W.bound writer.old) (W.taken writer.old) (behind context.now.front.now N.key N.header plain) }
-    ensures into { IsPassOf queues.now.jobs.now hands.new.into × ((view hands.new.into).parts ≡ (view hands.old.into).parts) }
-    ensures from { IsPassOf queues.now.pieces.now hands.new.from × ((view hands.new.from).parts ≡ (view hands.old.from).parts) }
+    ensures into { IsPassOf queues.now.jobs.now hands.new.into
+        × ((view hands.new.into).parts ≡ (view hands.old.into).parts) }
+    ensures from { IsPassOf queues.now.pieces.now hands.new.from
+        × ((view hands.new.from).parts ≡ (view hands.old.from).parts) }
     ensures sealed { HasSealedRounds context.now.front.now N.key N.header (context.now.plan.limit - 1)
         (context.now.plan.group * N.each) N.told (R.left reader.new) (R.failures reader.old) (R.failures reader.new)
         (W.taken writer.old) (W.taken writer.new) (W.failures writer.old) (W.failures writer.new) result }
@@ -126,8 +129,10 @@ fn crew<N: Naming + Send + Sync, T: Threads + Wait + Sync, R: Source, W: Output,
         requires { IsSync T.row × IsPlan N.each N.header context.now.plan
             × IsRead N.each N.key N.header N.told (R.left reader.now) context.now.plan round.now × (0 < last)
             × (last ≤ length queues.now.bells.now)
-            × IsPassOf queues.now.jobs.now hands.now.into × (last ≤ (view hands.now.into).parts) × ((view hands.now.into).put ≡ [])
-            × IsPassOf queues.now.pieces.now hands.now.from × (last ≤ (view hands.now.from).parts) × ((view hands.now.from).put ≡ [])
+            × IsPassOf queues.now.jobs.now hands.now.into × (last ≤ (view hands.now.into).parts)
+            × ((view hands.now.into).put ≡ [])
+            × IsPassOf queues.now.pieces.now hands.now.from × (last ≤ (view hands.now.from).parts)
+            × ((view hands.now.from).put ≡ [])
             × ((plain : List ℕ)
             → Admits (W.bound writer.now) (W.taken writer.now) (behind context.now.front.now N.key N.header plain)) }
         ensures { OnOk result ((n : ℕ) × HasAll n (view hands.exit.now.into) (view hands.exit.now.from))

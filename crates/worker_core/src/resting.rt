@@ -9,10 +9,10 @@ const SPINS: u32 = 100;
 
 const YIELDS: u32 = 200;
 
-// How many microseconds longer it sleeps each time, and the most.
-const STEP: u32 = 20;
+// Microseconds: the first sleep, and the longest.
+const SHORTEST: u32 = 20;
 
-const LONGEST: u32 = 50_000;
+const LONGEST: u32 = 250_000;
 
 /// Lets a moment pass after this many looks in vain, or a turn of the processor. Returns the looks with this one.
 pub(crate) fn look_again(looks: u32) -> u32 {
@@ -24,13 +24,13 @@ pub(crate) fn look_again(looks: u32) -> u32 {
     looks.saturating_add(1)
 }
 
-/// The same, but once looks have been in vain for long the thread also sleeps, longer each time: 50 milliseconds at most.
+/// The same, but once looks have been in vain for long the thread sleeps, each time a sixteenth of what it has slept so
+/// far, and a quarter of a second at most. What is above the last yield counts the microseconds of its sleep.
 pub(crate) fn rest_longer<R: Clock>(rt: &R, looks: u32) -> u32 {
     if looks < YIELDS {
         return look_again(looks);
     }
-    yield_now();
-    let pause = (looks - YIELDS).saturating_mul(STEP).min(LONGEST);
+    let pause = ((looks - YIELDS) / 16).max(SHORTEST).min(LONGEST);
     sleep(rt, Duration::from_micros(u64::from(pause)));
-    looks.saturating_add(1)
+    looks.saturating_add(pause)
 }
