@@ -1,5 +1,6 @@
 mod Taken
 pub mod Entries
+pub mod Growth
 pub mod Sound
 pub mod Calls
 pub mod Spools

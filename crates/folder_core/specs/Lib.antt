@@ -1,5 +1,6 @@
 pub mod Record
 pub mod Changes
+pub mod Growth
 pub mod Spooling
 pub mod Journals
 pub mod Places

@@ -16,6 +16,7 @@ ghost use Rattle.folder_core.specs.Changes.{new_output, with_entry};
 use crate::fault::FolderFault;
 use container_core::{Header, Key, Shape};
 use io_core::{Failed, Source};
+use std::marker::Brand;
 
 /// What stands for an output that isn't in hand.
 pub trait Place {
@@ -65,7 +66,7 @@ pub trait Outputs {
         ensures taken { OnErr result (taken self.new ≡ taken self.old) }
         ensures count { OnErr result (failures self.new ≡ counted true (failures self.old)) };
 
-    /// TellsBytes the output in hand up, and tries to remove it.
+    /// Gives the output in hand up, and tries to remove it.
     fn discard(&mut self) -> Result<(), Failed>
         ensures discarded { Closes GivenUp (rest self.old) (taken self.old) (failures self.old) (rest self.new) }
         ensures fresh { IsFresh (rest self.new) (taken self.new) (failures self.new) };
@@ -130,7 +131,7 @@ pub trait Folder: Outputs {
         ensures taken { Self.taken self.new ≡ Self.taken self.old }
         ensures failures { Self.failures self.new ≡ Self.failures self.old };
 
-    /// TellsBytes up an output that was never in hand, and tries to remove it. Nothing is in hand.
+    /// Gives up an output that was never in hand, and tries to remove it. Nothing is in hand.
     fn abandon(&mut self, output: Self::Handle) -> Result<(), Failed>
         requires new { IfSome (Self.rest self.old) (IsNew (Self.Handle.at output)) }
         ensures abandoned { Becomes (closed_at (Self.Handle.at output) GivenUp [] 0)
@@ -143,6 +144,13 @@ pub trait Whole {
     ghost key: { List ℕ };
 
     ghost plain: { List ℕ };
+}
+
+// A call that passes `Brand` picks both.
+impl Whole for Brand {
+    ghost key = { [] };
+
+    ghost plain = { [] };
 }
 
 /// A folder into whose outputs plaintexts are written, of containers that were read in it.

@@ -2,9 +2,11 @@
 //!
 //! An engine knows nothing of a folder's record. So the type of what it is given names what stays the same. Whatever
 //! value of that type the engine leaves, it has that record.
-ghost use Rattle.std.specs.Prelude.{◌≡◌, None, Option, option_map};
+ghost use Rattle.std.specs.Prelude.{◌≡◌, None, OnErr, OnOk, Option, option_map, true};
 ghost use Rattle.std.specs.Borrow.{GName};
-ghost use Rattle.folder_core.specs.Record.{RunRecord, bound_in};
+ghost use Rattle.io_core.specs.Streams.{counted};
+ghost use Rattle.folder_core.specs.Record.{Finished, GivenUp, RunRecord, bound_in};
+ghost use Rattle.folder_core.specs.Changes.{Closes, IsFresh};
 ghost use Rattle.output_core.specs.Bounds.{IsWithin};
 
 use crate::folder::Outputs;
@@ -73,4 +75,22 @@ pub fn lent_of<'a, F: Outputs, N: Rest>(output: InHand<'a, F, N>) -> &'a mut F
 {
     let InHand { folder, of: _ } = output;
     folder
+}
+
+/// Finishes the output in hand; if that fails, gives it up. A refused end counts as a failed write.
+pub fn finish_or_discard<F: Outputs>(folder: &mut F) -> Result<(), Failed>
+    ensures finished { OnOk result
+        (Closes Finished (F.rest folder.old) (F.taken folder.old) (F.failures folder.old) (F.rest folder.new)) }
+    ensures given_up { OnErr result (Closes GivenUp (F.rest folder.old) (F.taken folder.old)
+        (counted true (F.failures folder.old)) (F.rest folder.new)) }
+    ensures fresh { IsFresh (F.rest folder.new) (F.taken folder.new) (F.failures folder.new) }
+{
+    match folder.finish() {
+        Ok(()) => Ok(()),
+        Err(Failed) => {
+            // Its removal is tried. Where that fails too, the file stays, and the record has what it holds.
+            let _ = folder.discard();
+            Err(Failed)
+        }
+    }
 }

@@ -1,11 +1,12 @@
-//! What follows from the law of `Outputs`, at every moment of a run; what a line shows of a name, and where a path has its
-//! place. Each law is the contract of a function that does nothing.
-ghost use Rattle.std.specs.Prelude.{◌≡◌, ◌≢◌, ◌++◌, ℕ, All, IsUtf8, List, None, Some, [], codes};
-ghost use Rattle.std.specs.Prelude.{option_map};
+//! What follows from the law of `Outputs`, at every moment of a run; what a stretch of one adds to its record; what a line
+//! shows of a name, and where a path has its place. Each law is the contract of a function that does nothing.
+ghost use Rattle.std.specs.Prelude.{◌≡◌, ◌≢◌, ◌++◌, ℕ, All, IsUtf8, List, None, Option, Some, [], codes, length};
+ghost use Rattle.std.specs.Prelude.{IfSome, option_map};
 ghost use Rattle.io_core.specs.Streams.{IsFront};
 ghost use Rattle.output_core.specs.Bounds.{Admits};
-ghost use Rattle.folder_core.specs.Record.{IsSound, RunRecord, bound_in};
-ghost use Rattle.folder_core.specs.Changes.{whole};
+ghost use Rattle.folder_core.specs.Record.{Content, Created, IsSound, RunRecord, State, bound_in};
+ghost use Rattle.folder_core.specs.Changes.{Becomes, Closes, allowed, new_output, whole, with_entry};
+ghost use Rattle.folder_core.specs.Growth.{Grows, PutsOut};
 ghost use Rattle.folder_core.specs.Quotes.{quoted, unquoted};
 ghost use Rattle.folder_core.specs.Trees.{IsStep, place, steps};
 
@@ -22,6 +23,16 @@ pub fn cut_writes_are_sound<F: Outputs>()
     ensures { (outputs : F) (r : RunRecord) (held bytes front : List ℕ) → F.rest outputs ≡ Some r
         → F.taken outputs ≡ Some held → Admits (option_map bound_in (F.rest outputs)) (F.taken outputs) bytes
         → IsFront front bytes → ∥ IsSound (whole r (held ++ front)) ∥₁ }
+{}
+
+/// An output that is created, taken in hand and closed is one entry after all others. Nothing was in hand before.
+pub fn an_output_is_one_entry()
+    ensures { (name : List ℕ) (content : Content) (state : State) (taken : Option (List ℕ)) (failures : Option ℕ)
+        (place : ℕ) (before created ready after : Option RunRecord) → IfSome before (λ r. r.in_hand ≡ None)
+        → IfSome before (λ r. place ≡ length r.entries)
+        → Becomes (with_entry (Created (new_output name))) before created
+        → Becomes (allowed place content) created ready → Closes state ready taken failures after
+        → Grows (PutsOut name content state taken failures) before after }
 {}
 
 /// A name that is text is read back from what a line shows of it. So no two such names are shown alike.

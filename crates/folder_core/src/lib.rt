@@ -20,7 +20,7 @@ mod trees;
 
 pub use crate::fault::FolderFault;
 pub use crate::folder::{Folder, OpeningFolder, Outputs, Place, Whole};
-pub use crate::hand::{InHand, Rest, lent_of, taken_in_hand};
+pub use crate::hand::{InHand, Rest, finish_or_discard, lent_of, taken_in_hand};
 pub use crate::journals::journal_name;
 pub use crate::places::{PlaceFault, are_apart, last_name, put_below};
 pub use crate::quotes::{quote, unquote};

@@ -1,7 +1,7 @@
 //! Two outputs are created. One is written and finished, the other is given up, and the first is read back, twice.
 use crate::memory::MemoryFolder;
 use container_core::{Key, Shape, seal};
-use folder_core::{Folder, Outputs};
+use folder_core::{Folder, Outputs, finish_or_discard};
 use io_core::read_to_limit;
 use std::alloc::Global;
 
@@ -23,7 +23,7 @@ fn two_outputs(alloc: Global, plain: &[u8]) -> Option<bool> {
     let Ok(_) = folder.write(sealed.as_slice()) else {
         return None;
     };
-    let Ok(()) = folder.finish() else {
+    let Ok(()) = finish_or_discard(&mut folder) else {
         return None;
     };
     folder.allow_container(second, 4, &shape);
