@@ -1,3 +1,5 @@
 mod Files
 mod Known
+mod OnePut
+mod Restores
 mod Two

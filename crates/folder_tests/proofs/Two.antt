@@ -1,4 +1,4 @@
--- What is known of the record in the test of two outputs.
+-- What is known of the record in the tests of one and of two outputs.
 use Rattle.std.proofs.Common.{◌≡◌, ◌∙◌, ℕ, List, Option, None, Some, refl, sym, subst, ap, length, arith}
 use Rattle.std.specs.Prelude.{IfSome}
 use Rattle.container_core.specs.Shape.{ShapeView, one}
@@ -97,6 +97,22 @@ first_may key a b r0 r1 r2 place s start first at second shape =
     subst (λ x. IfSome r2 (MayHold place (Container 3 x))) (sym shape)
     (may_this r2 (both key a b) place 0 (Container 3 one) (two_this key a b r0 r1 r2 start first second)
     (first_at key a b r0 r1 r2 place start first at second) (may_first key a b))
+
+-- where it is the only one
+pub one_may : (key a : List ℕ) (r0 r1 : Option RunRecord) (place : ℕ) (s : ShapeView) → r0 ≡ Some (fresh key (range_of 1 3 2))
+    → Becomes (with_entry (Created (new_output a))) r0 r1 → IfSome r0 (λ was. place ≡ length was.entries) → s ≡ one
+    → IfSome r1 (MayHold place (Container 3 s))
+one_may key a r0 r1 place s start first at shape =
+    let begun : IsThis (fresh key (range_of 1 3 2)) r0 = subst (IsThis (fresh key (range_of 1 3 2))) (sym start) refl in
+    subst (λ x. IfSome r1 (MayHold place (Container 3 x))) (sym shape)
+    (may_this r1 (with_entry (Created (new_output a)) (fresh key (range_of 1 3 2))) place 0 (Container 3 one)
+    (then_this (with_entry (Created (new_output a))) r0 r1 (fresh key (range_of 1 3 2)) begun first)
+    (still (place ≡ 0) (with_entry (Created (new_output a))) r0 r1 (place_this r0 (fresh key (range_of 1 3 2)) place begun at) first)
+    (record {
+      new = record { name = a; idle = refl; there = refl };
+      allowed = (refl, (omega arith, omega arith));
+      free = refl;
+    }))
 
 hand_this : (key a b : List ℕ) (r0 r1 r2 r3 : Option RunRecord) (place : ℕ) (s : ShapeView) → r0 ≡ Some (fresh key (range_of 1 3 2))
     → Becomes (with_entry (Created (new_output a))) r0 r1 → IfSome r0 (λ was. place ≡ length was.entries)

@@ -1,2 +1,4 @@
 pub mod Noted
 pub mod Memory
+pub mod Putting
+pub mod Restoring

@@ -1,6 +1,6 @@
-//! A folder in memory whose record is what it did, and tests with it.
+//! A folder in memory whose record is what it did; what engines and openings add to the record of any folder; and tests.
 //!
-//! Begin with `memory`.
+//! Begin with `memory`. `restoring` has the two ways in which `open` works, over `putting` and `engines`.
 #![tactic(auto)]
 
 pub mod engines;
@@ -9,8 +9,14 @@ pub mod note;
 #[cfg(test)]
 mod outputs;
 pub mod pages;
+pub mod putting;
 pub mod reader;
+#[cfg(test)]
+mod restored;
+pub mod restoring;
 
 pub use crate::engines::{fill_again, fill_sealed};
 pub use crate::memory::{MemoryFolder, MemoryHandle};
+pub use crate::putting::{FillFault, put_again, put_plain};
 pub use crate::reader::MemoryReader;
+pub use crate::restoring::{restore_once, restore_twice};

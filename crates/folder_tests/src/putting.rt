@@ -1,0 +1,160 @@
+//! One output of a folder: it is created, filled with a plaintext, and closed. Its record grows by one entry.
+//!
+//! `open` is to write its outputs so, once commands use the record.
+ghost use Rattle.std.specs.Prelude.{◌≡◌, ◌<◌, ◌≤◌, ℕ, List, None, Some, IfSome, OnErr, OnOk, is_err, option_map};
+ghost use Rattle.io_core.specs.Streams.{Appends, AppendsFront, counted};
+ghost use Rattle.output_core.specs.Bounds.{Admits};
+ghost use Rattle.folder_core.specs.Record.{Plain, WasRead, bound_in};
+ghost use Rattle.folder_core.specs.Changes.{Becomes, IsFresh, MayHold, allowed};
+ghost use Rattle.folder_core.specs.Growth.{Grows};
+ghost use Rattle.folder_tests.specs.Putting.{IsAgainIn, PutsAgain, PutsPlain};
+
+use crate::engines::fill_again;
+use claim_core::{Free, MAX_WORKERS};
+use container_core::{Header, Key, MAX_OPENED, OpenFault};
+use folder_core::{
+    Folder, FolderFault, OpeningFolder, Outputs, Rest, Whole, finish_or_discard, lent_of,
+    taken_in_hand,
+};
+use io_core::Failed;
+use opening_core::{Plaintext, Stopped};
+use std::alloc::Global;
+use std::marker::Brand;
+use std::thread::Threads;
+use std::time::Clock;
+
+/// Why an output isn't whole.
+#[derive(Drop)]
+pub enum FillFault {
+    /// It was refused.
+    Uncreated(FolderFault),
+    /// It was given up.
+    Unfilled(Stopped),
+}
+
+// Fills the output in hand with a plaintext. The record and the folder are those that are named.
+fn plain_named<'a, N: Rest, F: Outputs>(
+    folder: &'a mut F,
+    plain: &Plaintext,
+) -> (Result<(), Failed>, &'a mut F)
+    requires rest { F.rest folder.old ≡ N.rest }
+    requires reference { folder.ghost_name ≡ N.folder }
+    requires may { Admits (option_map bound_in N.rest) (F.taken folder.old) plain.now }
+    ensures rest { F.rest result.1.now ≡ N.rest }
+    ensures reference { result.1.ghost_name ≡ folder.entry.ghost_name }
+    ensures ok { OnOk result.0 (Appends (F.taken folder.old) (F.taken result.1.now) plain.now) }
+    ensures err { OnErr result.0 (AppendsFront (F.taken folder.old) (F.taken result.1.now) plain.now) }
+    ensures count { F.failures result.1.now ≡ counted (is_err result.0) (F.failures folder.old) }
+{
+    let mut output = taken_in_hand::<F, N>(folder);
+    let done = plain.put_to(&mut output);
+    (done, lent_of(output))
+}
+
+// Fills the output in hand with a plaintext. Where a write fails it has a prefix of that.
+fn fill_plain<F: Outputs>(folder: &mut F, plain: &Plaintext) -> Result<(), Failed>
+    requires may { Admits (option_map bound_in (F.rest folder.old)) (F.taken folder.old) plain.now }
+    ensures rest { F.rest folder.new ≡ F.rest folder.old }
+    ensures ok { OnOk result (Appends (F.taken folder.old) (F.taken folder.new) plain.now) }
+    ensures err { OnErr result (AppendsFront (F.taken folder.old) (F.taken folder.new) plain.now) }
+    ensures count { F.failures folder.new ≡ counted (is_err result) (F.failures folder.old) }
+{
+    let (done, _) = plain_named::<Brand, F>(folder, plain);
+    done
+}
+
+// Takes a new output in hand, to hold the plaintext that is named.
+fn allow_named<N: Whole, F: OpeningFolder>(
+    folder: &mut F,
+    output: F::Handle,
+    key: &Key,
+    plain: &Plaintext,
+)
+    requires key { N.key ≡ key.now }
+    requires plain { N.plain ≡ plain.now }
+    requires may { IfSome (F.rest folder.old) (MayHold (F.Handle.at output) (Plain key.now plain.now)) }
+    ensures allowed { Becomes (allowed (F.Handle.at output) (Plain key.now plain.now)) (F.rest folder.old)
+        (F.rest folder.new) }
+    ensures fresh { IsFresh (F.rest folder.new) (F.taken folder.new) (F.failures folder.new) }
+{
+    folder.allow_plain::<N>(output);
+}
+
+// Takes a new output in hand, to hold this plaintext.
+fn allow_whole<F: OpeningFolder>(folder: &mut F, output: F::Handle, key: &Key, plain: &Plaintext)
+    requires may { IfSome (F.rest folder.old) (MayHold (F.Handle.at output) (Plain key.now plain.now)) }
+    ensures allowed { Becomes (allowed (F.Handle.at output) (Plain key.now plain.now)) (F.rest folder.old)
+        (F.rest folder.new) }
+    ensures fresh { IsFresh (F.rest folder.new) (F.taken folder.new) (F.failures folder.new) }
+{
+    allow_named::<Brand, F>(folder, output, key, plain);
+}
+
+/// Creates an output and writes a plaintext to it, that of a file which was read. Then finishes it. Where a write fails,
+/// or its end, it is given up.
+pub fn put_plain<F: OpeningFolder>(
+    folder: &mut F,
+    output: &str,
+    key: &Key,
+    plain: &Plaintext,
+) -> Result<(), FillFault>
+    requires idle { IfSome (F.rest folder.old) (λ r. r.in_hand ≡ None) }
+    requires read { IfSome (F.rest folder.old) (λ r. WasRead r.entries key.now plain.now) }
+    ensures { Grows (PutsPlain output.now key.now plain.now result) (F.rest folder.old) (F.rest folder.new) }
+{
+    let handle = match folder.create(output) {
+        Ok(handle) => handle,
+        Err(fault) => return Err(FillFault::Uncreated(fault)),
+    };
+    allow_whole(folder, handle, key, plain);
+    match fill_plain(folder, plain) {
+        Ok(()) => match finish_or_discard(folder) {
+            Ok(()) => Ok(()),
+            Err(Failed) => Err(FillFault::Unfilled(Stopped::Broken(OpenFault::Write))),
+        },
+        Err(Failed) => {
+            let _ = folder.discard();
+            Err(FillFault::Unfilled(Stopped::Broken(OpenFault::Write)))
+        }
+    }
+}
+
+/// Creates an output and writes to it the plaintext of a file that was read, opens under this header, and was set back to
+/// its first byte: it is read once more. Then finishes the output. Where a write fails, a read, or the output's end, or
+/// the second reading gives other bytes, the output is given up.
+pub fn put_again<T: Threads + Clock + Sync, F: OpeningFolder>(
+    rt: &T,
+    alloc: Global,
+    folder: &mut F,
+    output: &str,
+    key: &Key,
+    header: &Header,
+    reader: &mut F::Reader,
+    max_bytes: u64,
+    workers: u32,
+) -> Result<u64, FillFault>
+    requires max_bytes { max_bytes ≤ MAX_OPENED }
+    requires workers { (0 < workers) × (workers ≤ MAX_WORKERS) }
+    requires idle { IfSome (F.rest folder.old) (λ r. r.in_hand ≡ None) }
+    requires read { IfSome (F.rest folder.old) (IsAgainIn key.now header.now (F.Reader.left reader.old)) }
+    ensures { Grows (λ new. (last : List ℕ) × (F.Reader.left reader.old ≡ Some last)
+        × PutsAgain output.now key.now max_bytes header.now last result new) (F.rest folder.old) (F.rest folder.new) }
+{
+    let handle = match folder.create(output) {
+        Ok(handle) => handle,
+        Err(fault) => return Err(FillFault::Uncreated(fault)),
+    };
+    folder.allow_checked(handle, key, header, reader);
+    match fill_again(
+        rt, alloc, key, header, reader, folder, max_bytes, workers, &Free,
+    ) {
+        Ok(n) => match finish_or_discard(folder) {
+            Ok(()) => Ok(n),
+            Err(Failed) => Err(FillFault::Unfilled(Stopped::Broken(OpenFault::Write))),
+        },
+        Err(stopped) => {
+            let _ = folder.discard();
+            Err(FillFault::Unfilled(stopped))
+        }
+    }
+}
