@@ -1,11 +1,11 @@
 -- The record of a folder in memory, unless it was forgotten.
 use Rattle.std.proofs.Common.{◌≡◌, ◌∙◌, ℕ, Bool, true, false, List, [], length, Option, None, Some, MatchOption, refl, sym, ap, subst}
 use Rattle.std.specs.Prelude.{IfSome}
-use Rattle.folder_core.specs.Record.{Checked, Entry, GivenUp, RunRecord, State}
-use Rattle.folder_core.specs.Changes.{Becomes, MayHold, closed_at, with_entry}
-use Rattle.folder_core.proofs.Calls.{Keeps, close_call, idle_call}
+use Rattle.folder_core.specs.Record.{Checked, Closed, Entry, GivenUp, RunRecord, State}
+use Rattle.folder_core.specs.Changes.{Becomes, MayHold, Tells, closed_at, with_entry}
+use Rattle.folder_core.proofs.Calls.{Keeps, close_call, event_call, idle_call}
 use Rattle.folder_core.specs.Record.{IsSoundWith}
-use Rattle.folder_tests.specs.Memory.{Notes, entry_of, rest_by}
+use Rattle.folder_tests.specs.Memory.{IsClosing, Notes, entry_of, rest_by}
 use Rattle.folder_tests.specs.declared.pages.MemoryEntry.{MemoryEntry}
 
 pub becomes_by : (f : RunRecord → RunRecord) (told told' : Bool) (r r' : RunRecord) → told' ≡ told → r' ≡ f r
@@ -31,6 +31,27 @@ pub tells_becomes : (entry : Option MemoryEntry) (e : Entry) (before after : Opt
     → Notes entry before after → Becomes (with_entry e) before after
 tells_becomes None e before after is tells = subst (λ x. Becomes (with_entry e) before x) (sym tells) tt
 tells_becomes (Some x) e before after is tells = subst (λ y. Becomes (with_entry y) before after) is tells
+
+-- nothing was noted
+pub kept_by : (rest rest' : Option RunRecord) (taken taken' : List ℕ) → rest' ≡ rest → taken' ≡ taken → Keeps rest taken
+    → Keeps rest' taken'
+kept_by rest rest' taken taken' same is keeps = subst (λ r. Keeps r taken') (sym same) (subst (Keeps rest) (sym is) keeps)
+
+-- a file was closed
+pub closed_kept : (name : List ℕ) (failures : Option ℕ) (entry : Option MemoryEntry) (before after : Option RunRecord)
+    (taken taken' : List ℕ) → IfSome entry (IsClosing name failures) → Notes entry before after → taken' ≡ taken
+    → Keeps before taken → Keeps after taken'
+closed_kept name failures None before after taken taken' is tells same keeps =
+    subst (λ r. Keeps r taken') (sym tells) ∣ (tt, tt) ∣₁
+closed_kept name failures (Some e) before after taken taken' (n, known, is) tells same keeps =
+    event_call (Closed name n) before after taken taken' (subst (λ y. Becomes (with_entry y) before after) is tells) same keeps
+
+pub closed_tells : (name : List ℕ) (failures : Option ℕ) (entry : Option MemoryEntry) (before after : Option RunRecord)
+    → IfSome entry (IsClosing name failures) → Notes entry before after → Tells (Closed name) failures before after
+closed_tells name failures None before after is tells = subst (Tells (Closed name) failures before) (sym tells) tt
+closed_tells name failures (Some e) before None is tells = tt
+closed_tells name failures (Some e) before (Some r) (n, known, is) tells =
+    (n, known, subst (λ y. Becomes (with_entry y) before (Some r)) is tells)
 
 -- ---- what was in hand was closed, or all is forgotten
 

@@ -58,6 +58,11 @@ abbrev pub Notes : Option MemoryEntry → Option RunRecord → Option RunRecord 
 Notes None before after = after ≡ None
 Notes (Some entry) before after = Becomes (with_entry (entry_of entry)) before after
 
+-- The entry of a file of this name that was closed, after so many failed calls.
+abbrev pub IsClosing : List ℕ → Option ℕ → MemoryEntry → Type 0
+IsClosing name failures entry =
+    (n : ℕ) × (failures ≡ Some n) × (entry_of entry ≡ run.Happened (run.Closed name n))
+
 -- The record of a run that did nothing yet.
 abbrev pub fresh : List ℕ → Numbers → RunRecord
 fresh key range = record { under = Some (record { key = key; range = range }); entries = []; in_hand = None }

@@ -17,6 +17,7 @@ pub mod restoring;
 
 pub use crate::engines::{fill_again, fill_sealed};
 pub use crate::memory::{MemoryFolder, MemoryHandle};
+pub use crate::pages::Limits;
 pub use crate::putting::{FillFault, put_again, put_plain};
 pub use crate::reader::MemoryReader;
 pub use crate::restoring::{restore_once, restore_twice};

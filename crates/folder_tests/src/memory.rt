@@ -6,7 +6,7 @@ ghost use Rattle.folder_core.specs.Changes.{allowed};
 ghost use Rattle.folder_tests.specs.Memory.{fresh, record_of, rest_of};
 
 use crate::note::Naming;
-use crate::pages::{Mark, Pages, closed, created, read, refused, repeated, unread};
+use crate::pages::{Limits, Mark, Pages, closed, created, read, refused, repeated, unread};
 use crate::reader::MemoryReader;
 use container_core::{Header, Key, Shape};
 use folder_core::{Folder, FolderFault, OpeningFolder, Outputs, Place, Whole};
@@ -40,6 +40,13 @@ impl MemoryFolder {
         MemoryFolder { pages }
     }
 
+    /// From now on calls fail past these limits.
+    pub fn limit(&mut self, limits: Limits)
+        ensures { rest_of self.new.pages ≡ rest_of self.old.pages }
+    {
+        self.pages.limits = limits;
+    }
+
     /// Returns the bytes of the finished output of this name.
     pub fn bytes(&self, name: &str) -> Option<Vec<u8>> {
         self.pages.bytes(name)
@@ -64,6 +71,9 @@ impl Outputs for MemoryFolder {
     }
 
     fn finish(&mut self) -> Result<(), Failed> {
+        if !self.pages.may_end() {
+            return Err(Failed);
+        }
         match self.pages.in_hand {
             Some(place) => self.pages.close(place, Mark::Finished),
             None => self.pages.clear(),
@@ -91,7 +101,12 @@ impl Folder for MemoryFolder {
             Some(bytes) => {
                 let entry = read(alloc, name, bytes.as_slice());
                 self.pages.tell(entry);
-                Ok(MemoryReader { bytes, at: 0 })
+                Ok(MemoryReader {
+                    bytes,
+                    at: 0,
+                    reads: self.pages.limits.reads,
+                    failures: Some(0),
+                })
             }
             None => {
                 let entry = unread(alloc, name);
@@ -117,8 +132,7 @@ impl Folder for MemoryFolder {
     }
 
     fn close(&mut self, name: &str, reader: MemoryReader) {
-        let MemoryReader { bytes: _, at: _ } = reader;
-        let entry = closed(self.pages.alloc, name, 0);
+        let entry = closed(self.pages.alloc, name, reader.failures);
         self.pages.tell(entry);
     }
 

@@ -1,13 +1,13 @@
 //! What a folder in memory holds: its entries, and what the output in hand took.
 ghost use Rattle.std.specs.Prelude.{◌≡◌, ◌⊎◌, ◌++◌, ℕ, true, false, Some, None, [], length, IfOk, OnErr, IfSome, map};
-ghost use Rattle.std.specs.Prelude.{MatchOption, is_err, string_bytes};
+ghost use Rattle.std.specs.Prelude.{MatchOption, is_err, not, string_bytes};
 ghost use Rattle.io_core.specs.Streams.{counted};
 ghost use Rattle.folder_core.specs.Record.{RunRecord};
 ghost use Rattle.folder_core.specs.Record as run;
 ghost use Rattle.folder_core.specs.Changes.{allowed, change, changed, closed_at, new_output, set_closed, set_content};
 ghost use Rattle.folder_core.specs.Changes.{with_entry};
 ghost use Rattle.journal_core.specs.Range.{range_of};
-ghost use Rattle.folder_tests.specs.Memory.{Notes, entry_of, fresh, record_of, rest_of, state_of};
+ghost use Rattle.folder_tests.specs.Memory.{IsClosing, Notes, entry_of, fresh, record_of, rest_of, state_of};
 
 use crate::note::{ContentNote, Naming};
 use folder_core::FolderFault;
@@ -43,6 +43,17 @@ pub enum MemoryEntry {
     Created(File),
 }
 
+/// How many calls of each kind succeed before all of that kind fail.
+#[derive(Clone, Copy)]
+pub struct Limits {
+    /// Writes to outputs.
+    pub writes: u64,
+    /// Ends of outputs.
+    pub ends: u64,
+    /// Reads of one open file, over all its readings.
+    pub reads: u64,
+}
+
 /// Key and range, what happened so far (unless that was forgotten), what the output in hand took, and how many writes to
 /// it failed, if that is known.
 #[derive(Drop)]
@@ -57,6 +68,7 @@ pub struct Pages {
     pub(crate) in_hand: Option<usize>,
     pub(crate) taken: Vec<u8>,
     pub(crate) failures: Option<u64>,
+    pub(crate) limits: Limits,
 }
 
 impl MemoryEntry {
@@ -101,6 +113,11 @@ impl Pages {
             in_hand: None,
             taken: Vec::new(alloc),
             failures: Some(0),
+            limits: Limits {
+                writes: u64::MAX,
+                ends: u64::MAX,
+                reads: u64::MAX,
+            },
         }
     }
 
@@ -129,7 +146,30 @@ impl Pages {
         self.failures = Some(0);
     }
 
-    // More was taken, unless memory is refused.
+    // One more call failed of those that write the output in hand.
+    fn fail(&mut self)
+        ensures rest { rest_of self.new ≡ rest_of self.old }
+        ensures taken { self.new.taken.items ≡ self.old.taken.items }
+        ensures count { self.new.failures ≡ counted true self.old.failures }
+    {
+        self.failures = one_more(self.failures);
+    }
+
+    // Whether an end succeeds. If not, that is a call that failed.
+    pub(crate) fn may_end(&mut self) -> bool
+        ensures rest { rest_of self.new ≡ rest_of self.old }
+        ensures taken { self.new.taken.items ≡ self.old.taken.items }
+        ensures count { self.new.failures ≡ counted (not result) self.old.failures }
+    {
+        if self.limits.ends == 0 {
+            self.fail();
+            return false;
+        }
+        self.limits.ends -= 1;
+        true
+    }
+
+    // More was taken, unless writes fail by now, or memory is refused.
     pub(crate) fn take(&mut self, bytes: &[u8]) -> Result<usize, Failed>
         ensures rest { rest_of self.new ≡ rest_of self.old }
         ensures ok { IfOk result (λ n. (n ≡ length bytes.now)
@@ -139,13 +179,15 @@ impl Pages {
             ⊎ (self.new.taken.items ≡ self.old.taken.items) }
         ensures count { self.new.failures ≡ counted (is_err result) self.old.failures }
     {
+        if self.limits.writes == 0 {
+            self.fail();
+            return Err(Failed);
+        }
+        self.limits.writes -= 1;
         match self.taken.extend_from_slice(bytes) {
             Ok(()) => Ok(bytes.len()),
             Err(_) => {
-                self.failures = match self.failures {
-                    Some(count) => count.checked_add(1),
-                    None => None,
-                };
+                self.fail();
                 Err(Failed)
             }
         }
@@ -197,6 +239,16 @@ impl Pages {
     }
 }
 
+// A count of failed calls, after one more.
+pub(crate) fn one_more(count: Option<u64>) -> Option<u64>
+    ensures { result ≡ counted true count }
+{
+    match count {
+        Some(count) => count.checked_add(1),
+        None => None,
+    }
+}
+
 // The output at this place may have the content that is named.
 fn hold<N: Naming>(entries: &mut Vec<MemoryEntry>, place: usize)
     ensures { map entry_of entries.new.items
@@ -243,10 +295,11 @@ pub(crate) fn repeated(alloc: Global, name: &str, bytes: &[u8]) -> Option<Memory
     Some(MemoryEntry::Repeated(name, bytes))
 }
 
-// A file that was closed, if there is memory for the entry.
-pub(crate) fn closed(alloc: Global, name: &str, failures: u64) -> Option<MemoryEntry>
-    ensures { IfSome result (λ e. entry_of e ≡ run.Happened (run.Closed name.now failures)) }
+// A file that was closed after so many failed calls, if that is known and there is memory for the entry.
+pub(crate) fn closed(alloc: Global, name: &str, failures: Option<u64>) -> Option<MemoryEntry>
+    ensures { IfSome result (IsClosing name.now failures) }
 {
+    let failures = failures?;
     let name = String::from_str(alloc, name).ok()?;
     Some(MemoryEntry::Closed(name, failures))
 }
