@@ -1,8 +1,8 @@
 //! Opening: each file in turn, with its line on standard output.
 //!
 //! The first file that is worth several workers starts them, once, and they last to the end of the command; where there
-//! is no room for that, this thread goes on alone. A file whose length isn't known doesn't start them, as nothing may come
-//! of it for long: it starts its own for each reading.
+//! is no room for that, this thread goes on alone. Until then a file whose length isn't known, of which nothing may come
+//! for long, starts its own for each reading.
 ghost use Rattle.std.specs.Prelude.{◌≡◌, ℕ, ◌+◌, ◌<◌, ◌≤◌, List, [], ◌∷◌, ◌++◌, length, map, take, Option, Some, Ok, Err};
 ghost use Rattle.std.specs.Prelude.{IfOk, IfErr, IfSome, OnOk, option_map, MatchOption};
 ghost use Rattle.io_core.specs.Streams.{counted};

@@ -1,4 +1,5 @@
-//! Verifying: each file in turn, with its line on standard output. No file is created. Workers are those of `opening`.
+//! Verifying: each file in turn, with its line on standard output. No file is created. Workers are started, and
+//! last, as in `opening`.
 ghost use Rattle.std.specs.Prelude.{◌≡◌, ℕ, ◌+◌, ◌<◌, ◌≤◌, List, [], ◌∷◌, ◌++◌, length, map, take, Option, Some, option_map};
 ghost use Rattle.std.specs.Prelude.{IfOk, IfErr};
 ghost use Rattle.opening_core.specs.Workers.{AreWorkers};

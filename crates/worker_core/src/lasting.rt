@@ -14,7 +14,7 @@ use crate::filling::lay_out;
 use crate::letters::{Letter, LetterBox};
 use crate::owned::OwnedRound;
 use crate::places::Places;
-use crate::resting::{look_again, rest_longer};
+use crate::resting::{LOOKS, look_again, sleep_longer};
 use crate::shared::{Shared, make_drawn};
 use crate::slots::Slot;
 use claim_core::{Gate, MAX_WORKERS};
@@ -102,6 +102,7 @@ fn serve<R: Clock, G: Gate>(
 ) {
     let mut hand = Vec::new(alloc);
     let mut looks = 0;
+    let mut slept = 0;
     for _ in 0..u64::MAX {
         if let Some(letter) = letters.take() {
             let Letter {
@@ -113,10 +114,13 @@ fn serve<R: Clock, G: Gate>(
             letters.note(hand.capacity());
             drop(round);
             looks = 0;
+            slept = 0;
         } else if ended.load(SeqCst) != 0 {
             return;
+        } else if looks < LOOKS {
+            looks = look_again(looks);
         } else {
-            looks = rest_longer(rt, looks);
+            slept = sleep_longer(rt, slept);
         }
     }
 }
