@@ -3,7 +3,10 @@ use Rattle.std.proofs.Common.{◌≡◌, inl, inr, ℕ, suc, Bool, true, false, 
 use Rattle.std.specs.Prelude.{⊤, ◌⊎◌, IfSome, Ok, Err, slice_get, option_map, if◌then◌else◌}
 use Rattle.container_core.specs.Opening.{opening}
 use Rattle.io_core.specs.Streams.{Appends, AppendsFront, IsFront, Keeps, counted}
+use Rattle.container_core.specs.declared.fault.OpenFault.{OpenFault}
+use Rattle.container_core.specs.Faults.{IsOfBytes}
 use Rattle.opening_core.specs.declared.twice.Stopped.{Stopped}
+use Rattle.opening_core.specs.declared.twice.Stopped.TheVariants.{Broken, Changed, Refused}
 use Rattle.opening_core.specs.Engine.{BeginsPlaintext, HasHeader}
 use Rattle.opening_core.specs.Twice.{MayWrite, WritesAll, WritesSome, broken_by_write}
 use Rattle.opening_core.specs.Windows.{HasSent}
@@ -13,7 +16,7 @@ use Rattle.folder_core.specs.Changes.{Becomes, Closes, IsFresh, IsNumberFree, Ma
 use Rattle.folder_core.specs.Growth.{Grows, PutsOut}
 use Rattle.folder_core.proofs.Entries.{change_get, get_end, get_more}
 use Rattle.folder_core.proofs.Growth.{grows_by, puts_out}
-use Rattle.folder_tests.specs.Putting.{IsAgainIn, IsPartOf, closed_output, failed_writes}
+use Rattle.folder_tests.specs.Putting.{IsAgainIn, IsPartOf, IsStop, closed_output, failed_writes}
 
 -- nothing is in hand
 abbrev pub IsIdle : Option RunRecord → Type 0
@@ -169,7 +172,7 @@ front_is : (start taken : Option (List ℕ)) (bytes plain : List ℕ) → start 
 front_is start taken bytes plain empty some (front, is, grew) =
     subst (λ b. IsFront b plain) (sym (whole_is start taken bytes front empty some grew)) is
 
-count_is : (failed : Bool) (zero failures : Option ℕ) (n : ℕ) → zero ≡ Some 0 → failures ≡ Some n → failures ≡ counted failed zero
+pub count_is : (failed : Bool) (zero failures : Option ℕ) (n : ℕ) → zero ≡ Some 0 → failures ≡ Some n → failures ≡ counted failed zero
     → n ≡ (if failed then 1 else 0)
 count_is false zero failures n start some is = cc
 count_is true zero failures n start some is =
@@ -240,31 +243,44 @@ part_at key most header last start taken bytes empty some wrote how =
 -- all of it, though the output's end was refused
 pub again_unfinished : (name key : List ℕ) (most : ℕ) (header : List ℕ) (left start taken : Option (List ℕ)) (last : List ℕ) (count : ℕ)
     (stopped : Stopped) (zero failures : Option ℕ) → left ≡ Some last → HasWritten key most header left start taken count
-    → broken_by_write (Err stopped) ≡ true → failures ≡ counted true zero
+    → broken_by_write (Err stopped) ≡ true → IsStop key most header last stopped → failures ≡ counted true zero
     → (bytes : List ℕ) (n : ℕ) → start ≡ Some [] → zero ≡ Some 0 → taken ≡ Some bytes → failures ≡ Some n
-    → (written : List ℕ) × IsPartOf key most header last written
+    → (written : List ℕ) × IsPartOf key most header last written × IsStop key most header last stopped
     × (closed_output name (Checked key header last) bytes n GivenUp ∷ [] ≡ closed_output name (Checked key header last) written (failed_writes stopped) GivenUp ∷ [])
-again_unfinished name key most header left start taken last count stopped zero failures here wrote failed counts bytes n empty nil some many =
+again_unfinished name key most header left start taken last count stopped zero failures here wrote failed stop counts bytes n empty nil some many =
     let (headed, (plain, opens, grew, long)) = given key most header left start taken last count here wrote in
     let front : AppendsFront start taken plain = all_front start taken plain grew in (
       bytes,
       part_at key most header last start taken bytes empty some
           (λ other is. let same : plain ≡ other = cc in subst (AppendsFront start taken) same front) (inr (inr (headed, (plain, opens, front)))),
+      stop,
       ap (λ m. closed_output name (Checked key header last) bytes m GivenUp ∷ [])
           (count_is true zero failures n nil many counts ∙ sym (ap (λ b. if b then 1 else 0) failed)),
     )
 
+-- why it stopped
+pub stop_of : (key : List ℕ) (most : ℕ) (header last : List ℕ) (left : Option (List ℕ)) (stopped : Stopped) → left ≡ Some last
+    → (stopped ≡ Changed → IfSome left (λ input. (plain : List ℕ) → HasHeader header input → opening key most input ≡ Ok plain → ⊥))
+    → ((fault : OpenFault) → stopped ≡ Refused fault → ⊥) → ((fault : OpenFault) → stopped ≡ Broken fault → IsOfBytes fault → ⊥)
+    → IsStop key most header last stopped
+stop_of key most header last left (Refused fault) here changed before broken = before fault refl
+stop_of key most header last left Changed here changed before broken =
+    subst (λ o. IfSome o (λ input. (plain : List ℕ) → HasHeader header input → opening key most input ≡ Ok plain → ⊥)) here (changed refl)
+stop_of key most header last left (Broken fault) here changed before broken = broken fault refl
+
 -- what was written until it stopped
 pub again_part : (name key : List ℕ) (most : ℕ) (header : List ℕ) (left start taken : Option (List ℕ)) (last : List ℕ) (stopped : Stopped)
     (zero failures : Option ℕ) → left ≡ Some last → IfSome left (WritesSome key most start taken)
-    → Keeps start taken ⊎ HasSent key header header left start taken → failures ≡ counted (broken_by_write (Err stopped)) zero
+    → Keeps start taken ⊎ HasSent key header header left start taken → IsStop key most header last stopped
+    → failures ≡ counted (broken_by_write (Err stopped)) zero
     → (bytes : List ℕ) (n : ℕ) → start ≡ Some [] → zero ≡ Some 0 → taken ≡ Some bytes → failures ≡ Some n
-    → (written : List ℕ) × IsPartOf key most header last written
+    → (written : List ℕ) × IsPartOf key most header last written × IsStop key most header last stopped
     × (closed_output name (Checked key header last) bytes n GivenUp ∷ [] ≡ closed_output name (Checked key header last) written (failed_writes stopped) GivenUp ∷ [])
-again_part name key most header left start taken last stopped zero failures here wrote how counts bytes n empty nil some many = (
+again_part name key most header left start taken last stopped zero failures here wrote how stop counts bytes n empty nil some many = (
   bytes,
   part_at key most header last start taken bytes empty some (subst (λ o. IfSome o (WritesSome key most start taken)) here wrote)
       (either (subst (λ o. Keeps start taken ⊎ HasSent key header header o start taken) here how)),
+  stop,
   ap (λ m. closed_output name (Checked key header last) bytes m GivenUp ∷ []) (count_is (broken_by_write (Err stopped)) zero failures n nil many counts),
 )
   where

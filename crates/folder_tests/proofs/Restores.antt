@@ -1,17 +1,42 @@
 -- A file that is read, and then opened to an output.
-use Rattle.std.proofs.Common.{◌≡◌, ◌∙◌, inl, inr, ℕ, suc, List, [], ◌∷◌, ◌++◌, length, Option, None, Some, refl, sym, ap, subst, append_assoc, length-append, arith}
-use Rattle.std.specs.Prelude.{IfSome, Result, Ok, slice_get}
+use Rattle.std.proofs.Common.{◌≡◌, ◌∙◌, inl, inr, ℕ, suc, Bool, List, [], ◌∷◌, ◌++◌, length, Option, None, Some, refl, sym, ap, subst, append-nil, length-append, arith}
+use Rattle.std.specs.Prelude.{◌⊎◌, IfSome, Result, Ok, Err, slice_get, if◌then◌else◌}
 use Rattle.container_core.specs.Opening.{opening}
+use Rattle.io_core.specs.Streams.{counted}
 use Rattle.opening_core.specs.Engine.{HasHeader, OpensTo}
-use Rattle.folder_core.specs.Record.{Created, Entry, Event, Happened, Read, Repeated, RunRecord, State, Unread, Unrepeated, WasRead, WasReadAgain}
-use Rattle.folder_core.specs.Changes.{Becomes, Closes, TellsBytes, closed_by, with_entry}
+use Rattle.folder_core.specs.Record.{Closed, Entry, Event, Happened, Read, Repeated, RunRecord, Unread, WasRead, WasReadAgain}
+use Rattle.folder_core.specs.Changes.{Becomes, Tells, TellsBytes, with_entry}
 use Rattle.folder_core.specs.Growth.{Grows}
 use Rattle.folder_core.proofs.Entries.{get_end, get_more}
-use Rattle.folder_core.proofs.Growth.{grows_on}
+use Rattle.folder_core.proofs.Growth.{grows_by, grows_on}
+use Rattle.folder_tests.specs.declared.restoring.RestoreFault.{RestoreFault}
+use Rattle.folder_tests.specs.declared.restoring.RestoreFault.TheVariants as fault
 use Rattle.folder_tests.specs.declared.putting.FillFault.{FillFault}
-use Rattle.folder_tests.specs.Putting.{IsAgainIn, PutsAgain, PutsPlain}
-use Rattle.folder_tests.specs.Restoring.{BreaksOff, RestoresOnce, RestoresTwice}
-use Rattle.folder_tests.proofs.OnePut.{IsIdle}
+use Rattle.folder_tests.specs.Putting.{IsAgainIn, PutsAgain}
+use Rattle.folder_tests.specs.Restoring.{IsReading, PutsTwice, Restores, RestoresOnce, RestoresTwice, failed_reading}
+use Rattle.folder_tests.proofs.OnePut.{IsIdle, count_is}
+
+-- ---- what was added
+
+-- where something was known before, and follows
+pub grows_as : (P : RunRecord → Type 0) (p q : List Entry → Type 0) → ((was : RunRecord) → P was → (new : List Entry) → p new → q new)
+    → (before after : Option RunRecord) → IfSome before P → Grows p before after → Grows q before after
+grows_as P p q f before None known grew = tt
+grows_as P p q f None (Some after) known grew = absurd grew
+grows_as P p q f (Some before) (Some after) known (new, of, is) = (new, f before known new of, is)
+
+-- nothing came
+pub grows_none : (P : RunRecord → Type 0) (q : List Entry → Type 0) → ((was : RunRecord) → P was → q [])
+    → (rest : Option RunRecord) → IfSome rest P → Grows q rest rest
+grows_none P q f None known = tt
+grows_none P q f (Some r) known = ([], f r known, ap (λ l. record r { entries = l }) (sym (append-nil r.entries)))
+
+-- a fact that was known as long as the record was
+pub grown_still : (P : Type 0) (kind : List Entry → Type 0) (before after : Option RunRecord) → IfSome before (λ _. P)
+    → Grows kind before after → IfSome after (λ _. P)
+grown_still P kind before None p grew = tt
+grown_still P kind None (Some r) p grew = absurd grew
+grown_still P kind (Some was) (Some r) p grew = p
 
 pub told_idle : (event : List ℕ → Event) (left : Option (List ℕ)) (before after : Option RunRecord)
     → TellsBytes event left before after → IsIdle before → IsIdle after
@@ -19,138 +44,82 @@ told_idle event left before None tells idle = tt
 told_idle event left before (Some r) (bytes, here, (was, known, is)) idle =
     subst (λ x. x.in_hand ≡ None) (sym is) (subst IsIdle known idle)
 
-pub grown_idle : (kind : List Entry → Type 0) (before after : Option RunRecord) → Grows kind before after → IsIdle before
-    → IsIdle after
-grown_idle kind before None grew idle = tt
-grown_idle kind None (Some r) grew idle = absurd grew
-grown_idle kind (Some was) (Some r) (new, of, is) idle = subst (λ x. x.in_hand ≡ None) (sym is) idle
-
-closed_idle_at : (place : Option ℕ) (state : State) (bytes : List ℕ) (n : ℕ) (was : RunRecord) → was.in_hand ≡ place
-    → (closed_by place state bytes n was).in_hand ≡ None
-closed_idle_at None state bytes n was is = is
-closed_idle_at (Some place) state bytes n was is = refl
-
-pub closed_idle : (state : State) (before after : Option RunRecord) (taken : Option (List ℕ)) (failures : Option ℕ)
-    → Closes state before taken failures after → IsIdle after
-closed_idle state before None taken failures closes = tt
-closed_idle state before (Some r) taken failures (was, bytes, n, known, had, count, is) =
-    subst (λ x. x.in_hand ≡ None) (sym is) (closed_idle_at was.in_hand state bytes n was refl)
+pub told_grows : (event : List ℕ → Event) (left : Option (List ℕ)) (before after : Option RunRecord)
+    → TellsBytes event left before after
+    → Grows (λ new. (bytes : List ℕ) × (left ≡ Some bytes) × (new ≡ Happened (event bytes) ∷ [])) before after
+told_grows event left before None tells = tt
+told_grows event left before (Some r) (bytes, here, came) =
+    grows_by (λ new. (bytes : List ℕ) × (left ≡ Some bytes) × (new ≡ Happened (event bytes) ∷ [])) (Happened (event bytes))
+    (bytes, here, refl) before (Some r) came
 
 -- ---- what was read
 
 known_at : (P : List ℕ → Type 0) (left : Option (List ℕ)) (bytes : List ℕ) → left ≡ Some bytes → IfSome left P → P bytes
 known_at P left bytes is p = subst (λ o. IfSome o P) is p
 
-pub then_read : (name key plain : List ℕ) (most : ℕ) (left : Option (List ℕ)) (before after : Option RunRecord)
-    → TellsBytes (Read name) left before after → IfSome left (λ input. opening key most input ≡ Ok plain)
-    → IfSome after (λ r. WasRead r.entries key plain)
-then_read name key plain most left before None tells opens = tt
-then_read name key plain most left before (Some r) (bytes, here, (was, known, is)) opens =
-    subst (λ x. WasRead x.entries key plain) (sym is) (
-      length was.entries,
-      name,
-      bytes,
-      most,
-      get_end was.entries (Happened (Read name bytes)),
-      known_at (λ input. opening key most input ≡ Ok plain) left bytes here opens,
-    )
+pub then_reading : (name : List ℕ) (left : Option (List ℕ)) (before after : Option RunRecord)
+    → TellsBytes (Read name) left before after → IfSome after (IsReading name left)
+then_reading name left before None tells = tt
+then_reading name left before (Some r) (bytes, here, (was, known, is)) = (was.entries, bytes, here, ap (λ (x : RunRecord). x.entries) is)
+
+pub was_read : (name key plain : List ℕ) (most : ℕ) (left : Option (List ℕ)) (rest : Option RunRecord)
+    → IfSome rest (IsReading name left) → IfSome left (λ input. opening key most input ≡ Ok plain)
+    → IfSome rest (λ r. WasRead r.entries key plain)
+was_read name key plain most left None reading opens = tt
+was_read name key plain most left (Some r) (front, input, here, is) opens = (
+  length front,
+  name,
+  input,
+  most,
+  ap (λ l. slice_get l (length front)) is ∙ get_end front (Happened (Read name input)),
+  known_at (λ bytes. opening key most bytes ≡ Ok plain) left input here opens,
+)
 
 -- it opens, and has this header
 abbrev pub IsHeaded : List ℕ → ℕ → List ℕ → List ℕ → Type 0
 IsHeaded key most header first = HasHeader header first × (plain : List ℕ) × (opening key most first ≡ Ok plain)
 
+pub headed_of : (key header : List ℕ) (most n : ℕ) (left : Option (List ℕ)) → IfSome left (HasHeader header)
+    → IfSome left (λ input. OpensTo key most input n) → IfSome left (IsHeaded key most header)
+headed_of key header most n None has opens = tt
+headed_of key header most n (Some input) has opens = (has, opens.0, opens.1)
+
 long : (l : List Entry) (e : Entry) → length (l ++ e ∷ []) ≡ suc (length l)
 long l e = let more = length-append l (e ∷ []) in omega (arith, more)
 
-pub then_again : (name key header : List ℕ) (most : ℕ) (left next : Option (List ℕ)) (one two three : Option RunRecord)
-    → TellsBytes (Read name) left one two → IfSome left (IsHeaded key most header)
-    → TellsBytes (Repeated name) next two three → IfSome three (IsAgainIn key header next)
-then_again name key header most left next one two None read headed tells = tt
-then_again name key header most left next one two (Some r) read headed (last, there, (was, known, is)) =
-    let (first, here, (start, begun, first_is)) = subst (λ o. IfSome o (λ _. (bytes : List ℕ) × (left ≡ Some bytes)
-    × Becomes (with_entry (Happened (Read name bytes))) one o)) known (whole read) in
+pub was_again : (name key header : List ℕ) (most : ℕ) (left next : Option (List ℕ)) (before after : Option RunRecord)
+    → IfSome before (IsReading name left) → IfSome left (IsHeaded key most header)
+    → TellsBytes (Repeated name) next before after → IfSome after (IsAgainIn key header next)
+was_again name key header most left next before None reading headed tells = tt
+was_again name key header most left next before (Some r) reading headed (last, there, (was, known, is)) =
+    let (front, first, here, was_is) = subst (λ o. IfSome o (IsReading name left)) known reading in
     let (has, plain, opens) = known_at (IsHeaded key most header) left first here headed in
-    let l : List Entry = start.entries in
     let e : Entry = Happened (Read name first) in
     let f : Entry = Happened (Repeated name last) in
-    let at : slice_get ((l ++ e ∷ []) ++ f ∷ []) (suc (length l)) ≡ Some f =
-    subst (λ n. slice_get ((l ++ e ∷ []) ++ f ∷ []) n ≡ Some f) (long l e) (get_end (l ++ e ∷ []) f) in (
+    let all : r.entries ≡ (front ++ e ∷ []) ++ f ∷ [] = ap (λ (x : RunRecord). x.entries) is ∙ ap (λ l. l ++ f ∷ []) was_is in
+    let behind : slice_get ((front ++ e ∷ []) ++ f ∷ []) (suc (length front)) ≡ Some f =
+    subst (λ n. slice_get ((front ++ e ∷ []) ++ f ∷ []) n ≡ Some f) (long front e) (get_end (front ++ e ∷ []) f) in (
       last,
       there,
-      subst (λ x. WasReadAgain x.entries key header last) (sym (is ∙ ap (with_entry f) first_is))
-          (length l, name, first, plain, most, get_more (l ++ e ∷ []) f e (length l) (get_end l e), at, opens, has.0, has.1),
+      subst (λ l. WasReadAgain l key header last) (sym all)
+          (length front, name, first, plain, most, get_more (front ++ e ∷ []) f e (length front) (get_end front e), behind, opens, has.0, has.1),
     )
-  where
-    whole : TellsBytes (Read name) left one two → IfSome two (λ _. (bytes : List ℕ) × (left ≡ Some bytes)
-        × Becomes (with_entry (Happened (Read name bytes))) one two)
-    whole read = read
 
--- ---- what is added
-
-pub read_only : (name : List ℕ) (left : Option (List ℕ)) (before after : Option RunRecord)
-    → TellsBytes (Read name) left before after → Grows (BreaksOff name) before after
-read_only name left before None tells = tt
-read_only name left None (Some r) (bytes, here, (was, known, is)) = absurd (cc)
-read_only name left (Some b) (Some r) (bytes, here, (was, known, is)) =
-    let same : was ≡ b = cc in
-    (Happened (Read name bytes) ∷ [], inr (bytes, inl refl), is ∙ ap (with_entry (Happened (Read name bytes))) same)
-
-pub not_read : (name : List ℕ) (before after : Option RunRecord) → Becomes (with_entry (Happened (Unread name))) before after
-    → Grows (BreaksOff name) before after
-not_read name before None came = tt
-not_read name None (Some r) (was, known, is) = absurd (cc)
-not_read name (Some b) (Some r) (was, known, is) =
-    let same : was ≡ b = cc in
-    (Happened (Unread name) ∷ [], inl refl, is ∙ ap (with_entry (Happened (Unread name))) same)
-
-pub read_grows : (name : List ℕ) (left : Option (List ℕ)) (event : List ℕ → Event) (before after : Option RunRecord)
-    → TellsBytes event left before after
-    → Grows (λ new. (bytes : List ℕ) × (left ≡ Some bytes) × (new ≡ Happened (event bytes) ∷ [])) before after
-read_grows name left event before None tells = tt
-read_grows name left event None (Some r) (bytes, here, (was, known, is)) = absurd (cc)
-read_grows name left event (Some b) (Some r) (bytes, here, (was, known, is)) =
-    let same : was ≡ b = cc in
-    (Happened (event bytes) ∷ [], (bytes, here, refl), is ∙ ap (with_entry (Happened (event bytes))) same)
-
-pub unrepeated : (name : List ℕ) (left : Option (List ℕ)) (one two three : Option RunRecord) → TellsBytes (Read name) left one two
-    → Becomes (with_entry (Happened (Unrepeated name))) two three → Grows (BreaksOff name) one three
-unrepeated name left one two three read came =
-    grows_on (λ new. (bytes : List ℕ) × (left ≡ Some bytes) × (new ≡ Happened (Read name bytes) ∷ []))
-    (λ new. new ≡ Happened (Unrepeated name) ∷ []) (BreaksOff name)
-    (λ a b (bytes, here, is) also. inr (bytes, inr (ap (λ l. l ++ b) is ∙ ap (λ l. Happened (Read name bytes) ∷ l) also))) one two three
-    (read_grows name left (Read name) one two read) (by two three came)
-  where
-    by : (two three : Option RunRecord) → Becomes (with_entry (Happened (Unrepeated name))) two three
-        → Grows (λ new. new ≡ Happened (Unrepeated name) ∷ []) two three
-    by two None came = tt
-    by None (Some r) (was, known, is) = absurd (cc)
-    by (Some b) (Some r) (was, known, is) =
-        let same : was ≡ b = cc in
-        (Happened (Unrepeated name) ∷ [], refl, is ∙ ap (with_entry (Happened (Unrepeated name))) same)
-
-pub once_grows : {A : Type 0} (name output key plain : List ℕ) (most : ℕ) (left : Option (List ℕ)) (result : Result A FillFault)
-    (one two three : Option RunRecord) → TellsBytes (Read name) left one two → IfSome left (λ input. opening key most input ≡ Ok plain)
-    → Grows (PutsPlain output key plain result) two three → Grows (RestoresOnce name output key most (Some result)) one three
-once_grows name output key plain most left result one two three read opens grew =
-    grows_on (λ new. (bytes : List ℕ) × (left ≡ Some bytes) × (new ≡ Happened (Read name bytes) ∷ []))
-    (PutsPlain output key plain result) (RestoresOnce name output key most (Some result))
-    (λ a b (bytes, here, is) puts. (bytes, plain, known_at (λ input. opening key most input ≡ Ok plain) left bytes here opens, b, puts, ap (λ l. l ++ b) is))
-    one two three (read_grows name left (Read name) one two read) grew
-
+-- what a second reading gave was put to the output
 pub twice_grows : (name output key header : List ℕ) (most : ℕ) (left next : Option (List ℕ)) (result : Result ℕ FillFault)
-    (one two three four : Option RunRecord) → TellsBytes (Read name) left one two → IfSome left (IsHeaded key most header)
-    → TellsBytes (Repeated name) next two three
-    → Grows (λ new. (last : List ℕ) × (next ≡ Some last) × PutsAgain output key most header last result new) three four
-    → Grows (RestoresTwice name output key most (Some result)) one four
-twice_grows name output key header most left next result one two three four read headed again grew =
-    grows_on (λ new. (bytes : List ℕ) × (left ≡ Some bytes) × (new ≡ Happened (Read name bytes) ∷ []))
+    (before between after : Option RunRecord) → IfSome before (IsReading name left) → IfSome left (IsHeaded key most header)
+    → TellsBytes (Repeated name) next before between
+    → Grows (λ new. (last : List ℕ) × (next ≡ Some last) × PutsAgain output key most header last result new) between after
+    → Grows (λ new. (first : List ℕ) × (left ≡ Some first) × PutsTwice name output key most first result new) before after
+twice_grows name output key header most left next result before between after reading headed again grew =
+    grows_as (IsReading name left)
     (λ new. (last : List ℕ) × (more : List Entry) × PutsAgain output key most header last result more
     × (new ≡ Happened (Repeated name last) ∷ more))
-    (RestoresTwice name output key most (Some result))
-    (λ a b (bytes, here, is) (last, more, puts, also).
-    let (has, plain, opens) = known_at (IsHeaded key most header) left bytes here headed in
-    (bytes, last, header, plain, opens, has, more, puts, ap (λ l. l ++ b) is ∙ ap (λ l. Happened (Read name bytes) ∷ l) also))
-    one two four (read_grows name left (Read name) one two read)
+    (λ new. (first : List ℕ) × (left ≡ Some first) × PutsTwice name output key most first result new)
+    (λ was (front, first, here, is) new (last, more, puts, also).
+    let (has, plain, opens) = known_at (IsHeaded key most header) left first here headed in
+    (first, here, (header, last, plain, opens, has, more, puts, also)))
+    before after reading
     (grows_on (λ new. (bytes : List ℕ) × (next ≡ Some bytes) × (new ≡ Happened (Repeated name bytes) ∷ []))
     (λ new. (last : List ℕ) × (next ≡ Some last) × PutsAgain output key most header last result new)
     (λ new. (last : List ℕ) × (more : List Entry) × PutsAgain output key most header last result more
@@ -158,9 +127,65 @@ twice_grows name output key header most left next result one two three four read
     (λ a b (bytes, here, is) (last, there, puts).
     let same : last ≡ bytes = cc in
     (bytes, b, subst (λ l. PutsAgain output key most header l result b) same puts, ap (λ l. l ++ b) is))
-    two three four (read_grows name next (Repeated name) two three again) grew)
+    before between after (told_grows (Repeated name) next before between again) grew)
 
-pub headed_of : (key header : List ℕ) (most n : ℕ) (left : Option (List ℕ)) → IfSome left (HasHeader header)
-    → IfSome left (λ input. OpensTo key most input n) → IfSome left (IsHeaded key most header)
-headed_of key header most n None has opens = tt
-headed_of key header most n (Some input) has opens = (has, opens.0, opens.1)
+-- ---- at the end
+
+-- how many calls of the reader failed, since it was opened
+pub counted_since : (kind : List Entry → Type 0) (failed : Bool) (first last : Option ℕ) (one two : Option RunRecord)
+    → IfSome one (λ _. first ≡ Some 0) → Grows kind one two → IfSome two (λ _. last ≡ counted failed first)
+    → IfSome two (λ _. last ≡ counted failed (Some 0))
+counted_since kind failed first last one None zero grew count = tt
+counted_since kind failed first last None (Some r) zero grew count = absurd grew
+counted_since kind failed first last (Some was) (Some r) zero grew count = count ∙ ap (counted failed) zero
+
+closes : (name : List ℕ) (failed : Bool) (failures : Option ℕ) (before after : Option RunRecord)
+    → IfSome before (λ _. failures ≡ counted failed (Some 0)) → Tells (Closed name) failures before after
+    → Grows (λ new. new ≡ Happened (Closed name (if failed then 1 else 0)) ∷ []) before after
+closes name failed failures before None count tells = tt
+closes name failed failures before (Some r) count (n, many, (was, known, is)) =
+    let is_count : failures ≡ counted failed (Some 0) = subst (λ o. IfSome o (λ _. failures ≡ counted failed (Some 0))) known count in
+    let one : n ≡ (if failed then 1 else 0) = count_is failed (Some 0) failures n refl many is_count in
+    grows_by (λ new. new ≡ Happened (Closed name (if failed then 1 else 0)) ∷ []) (Happened (Closed name n))
+    (ap (λ m. Happened (Closed name m) ∷ []) one) before (Some r) (was, known, is)
+
+-- what was added for a file that was read
+abbrev pub Worked : List ℕ → List ℕ → List ℕ → ℕ → List ℕ → Result ℕ RestoreFault → List Entry → Type 0
+Worked name output key most input result worked =
+    RestoresOnce output key most input result worked ⊎ RestoresTwice name output key most input result worked
+
+whole : (name output key : List ℕ) (most : ℕ) (result : Result ℕ RestoreFault) (input : List ℕ) (worked new : List Entry)
+    → Worked name output key most input result worked
+    → new ≡ Happened (Read name input) ∷ worked ++ Happened (Closed name (if failed_reading result then 1 else 0)) ∷ []
+    → Restores name output key most result new
+whole name output key most (Ok n) input worked new how is = (input, worked, how, is)
+whole name output key most (Err fault.Unread) input worked new (inl how) is = absurd how
+whole name output key most (Err fault.Unread) input worked new (inr how) is = absurd how
+whole name output key most (Err (fault.Unopened f)) input worked new how is = (input, worked, how, is)
+whole name output key most (Err fault.Unrepeated) input worked new how is = (input, worked, how, is)
+whole name output key most (Err (fault.Unput f)) input worked new how is = (input, worked, how, is)
+
+pub restores : (name output key : List ℕ) (most : ℕ) (left : Option (List ℕ)) (result : Result ℕ RestoreFault) (first last : Option ℕ)
+    (one two three four : Option RunRecord) → TellsBytes (Read name) left one two → IfSome two (λ _. first ≡ Some 0)
+    → Grows (λ new. (input : List ℕ) × (left ≡ Some input) × Worked name output key most input result new) two three
+    → IfSome three (λ _. last ≡ counted (failed_reading result) first) → Tells (Closed name) last three four
+    → Grows (Restores name output key most result) one four
+restores name output key most left result first last one two three four read zero worked count closed =
+    grows_on (λ new. (bytes : List ℕ) × (left ≡ Some bytes) × (new ≡ Happened (Read name bytes) ∷ []))
+    (λ new. (input : List ℕ) × (done : List Entry) × (left ≡ Some input) × Worked name output key most input result done
+    × (new ≡ done ++ Happened (Closed name (if failed_reading result then 1 else 0)) ∷ []))
+    (Restores name output key most result)
+    (λ a b (bytes, here, is) (input, done, there, how, also).
+    let same : input ≡ bytes = cc in
+    whole name output key most result input done (a ++ b) how
+    (ap (λ l. l ++ b) is ∙ ap (λ l. Happened (Read name bytes) ∷ l) also
+    ∙ ap (λ i. Happened (Read name i) ∷ done ++ Happened (Closed name (if failed_reading result then 1 else 0)) ∷ []) (sym same)))
+    one two four (told_grows (Read name) left one two read)
+    (grows_on (λ new. (input : List ℕ) × (left ≡ Some input) × Worked name output key most input result new)
+    (λ new. new ≡ Happened (Closed name (if failed_reading result then 1 else 0)) ∷ [])
+    (λ new. (input : List ℕ) × (done : List Entry) × (left ≡ Some input) × Worked name output key most input result done
+    × (new ≡ done ++ Happened (Closed name (if failed_reading result then 1 else 0)) ∷ []))
+    (λ a b (input, there, how) also. (input, a, there, how, ap (λ l. a ++ l) also))
+    two three four worked
+    (closes name (failed_reading result) last three four
+    (counted_since _ (failed_reading result) first last two three zero worked count) closed))

@@ -8,7 +8,7 @@ use Rattle.folder_tests.specs.declared.pages.File.{File}
 use Rattle.folder_tests.specs.declared.pages.Mark.{Mark}
 use Rattle.folder_tests.specs.declared.pages.Mark.TheVariants.{Open, Finished, GivenUp}
 use Rattle.folder_tests.specs.declared.pages.MemoryEntry.{MemoryEntry}
-use Rattle.folder_tests.specs.declared.pages.MemoryEntry.TheVariants.{Read, Unread, Repeated, Closed, Refused, Created}
+use Rattle.folder_tests.specs.declared.pages.MemoryEntry.TheVariants.{Read, Unread, Repeated, Unrepeated, Closed, Refused, Created}
 use Rattle.folder_tests.specs.declared.pages.Pages.{Pages}
 use Rattle.folder_tests.specs.Noted.{content_of}
 
@@ -30,6 +30,7 @@ abbrev pub entry_of : MemoryEntry → Entry
 entry_of (Read name bytes) = run.Happened (run.Read (string_bytes name) bytes.items)
 entry_of (Unread name) = run.Happened (run.Unread (string_bytes name))
 entry_of (Repeated name bytes) = run.Happened (run.Repeated (string_bytes name) bytes.items)
+entry_of (Unrepeated name) = run.Happened (run.Unrepeated (string_bytes name))
 entry_of (Closed name failures) = run.Happened (run.Closed (string_bytes name) failures)
 entry_of (Refused name fault) = run.Happened (run.Refused (string_bytes name) fault)
 entry_of (Created file) = run.Created (output_of file)

@@ -6,7 +6,9 @@ ghost use Rattle.folder_core.specs.Changes.{allowed};
 ghost use Rattle.folder_tests.specs.Memory.{fresh, record_of, rest_of};
 
 use crate::note::Naming;
-use crate::pages::{Limits, Mark, Pages, closed, created, read, refused, repeated, unread};
+use crate::pages::{
+    Limits, Mark, Pages, closed, created, one_more, read, refused, repeated, unread, unrepeated,
+};
 use crate::reader::MemoryReader;
 use container_core::{Header, Key, Shape};
 use folder_core::{Folder, FolderFault, OpeningFolder, Outputs, Place, Whole};
@@ -121,10 +123,17 @@ impl Folder for MemoryFolder {
     }
 
     fn can_repeat(&self, _reader: &MemoryReader) -> bool {
-        true
+        self.pages.limits.can_repeat
     }
 
     fn again(&mut self, name: &str, reader: &mut MemoryReader) -> Result<(), Failed> {
+        if self.pages.limits.turns == 0 {
+            reader.failures = one_more(reader.failures);
+            let entry = unrepeated(self.pages.alloc, name);
+            self.pages.tell(entry);
+            return Err(Failed);
+        }
+        self.pages.limits.turns -= 1;
         reader.at = 0;
         let entry = repeated(self.pages.alloc, name, reader.bytes.as_slice());
         self.pages.tell(entry);

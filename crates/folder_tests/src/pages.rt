@@ -38,12 +38,13 @@ pub enum MemoryEntry {
     Read(String, Vec<u8>),
     Unread(String),
     Repeated(String, Vec<u8>),
+    Unrepeated(String),
     Closed(String, u64),
     Refused(String, FolderFault),
     Created(File),
 }
 
-/// How many calls of each kind succeed before all of that kind fail.
+/// How many calls of each kind succeed before all of that kind fail, and whether files can be read again.
 #[derive(Clone, Copy)]
 pub struct Limits {
     /// Writes to outputs.
@@ -52,6 +53,10 @@ pub struct Limits {
     pub ends: u64,
     /// Reads of one open file, over all its readings.
     pub reads: u64,
+    /// Calls that set a file back to its first byte.
+    pub turns: u64,
+    /// Whether a file says that it can be set back.
+    pub can_repeat: bool,
 }
 
 /// Key and range, what happened so far (unless that was forgotten), what the output in hand took, and how many writes to
@@ -117,6 +122,8 @@ impl Pages {
                 writes: u64::MAX,
                 ends: u64::MAX,
                 reads: u64::MAX,
+                turns: u64::MAX,
+                can_repeat: true,
             },
         }
     }
@@ -293,6 +300,14 @@ pub(crate) fn repeated(alloc: Global, name: &str, bytes: &[u8]) -> Option<Memory
     let name = String::from_str(alloc, name).ok()?;
     let bytes = Vec::from_slice(alloc, bytes).ok()?;
     Some(MemoryEntry::Repeated(name, bytes))
+}
+
+// A file that couldn't be read again, if there is memory for the entry.
+pub(crate) fn unrepeated(alloc: Global, name: &str) -> Option<MemoryEntry>
+    ensures { IfSome result (λ e. entry_of e ≡ run.Happened (run.Unrepeated name.now)) }
+{
+    let name = String::from_str(alloc, name).ok()?;
+    Some(MemoryEntry::Unrepeated(name))
 }
 
 // A file that was closed after so many failed calls, if that is known and there is memory for the entry.

@@ -1,13 +1,13 @@
 //! One output of a folder: it is created, filled with a plaintext, and closed. Its record grows by one entry.
 //!
 //! `open` is to write its outputs so, once commands use the record.
-ghost use Rattle.std.specs.Prelude.{◌≡◌, ◌<◌, ◌≤◌, ℕ, List, None, Some, IfSome, OnErr, OnOk, is_err, option_map};
+ghost use Rattle.std.specs.Prelude.{◌≡◌, ◌<◌, ◌≤◌, ℕ, List, None, Some, IfSome, OnErr, OnOk, false, is_err, option_map};
 ghost use Rattle.io_core.specs.Streams.{Appends, AppendsFront, counted};
 ghost use Rattle.output_core.specs.Bounds.{Admits};
 ghost use Rattle.folder_core.specs.Record.{Plain, WasRead, bound_in};
 ghost use Rattle.folder_core.specs.Changes.{Becomes, IsFresh, MayHold, allowed};
 ghost use Rattle.folder_core.specs.Growth.{Grows};
-ghost use Rattle.folder_tests.specs.Putting.{IsAgainIn, PutsAgain, PutsPlain};
+ghost use Rattle.folder_tests.specs.Putting.{IsAgainIn, PutsAgain, PutsPlain, stopped_reading};
 
 use crate::engines::fill_again;
 use claim_core::{Free, MAX_WORKERS};
@@ -100,7 +100,9 @@ pub fn put_plain<F: OpeningFolder>(
 ) -> Result<(), FillFault>
     requires idle { IfSome (F.rest folder.old) (λ r. r.in_hand ≡ None) }
     requires read { IfSome (F.rest folder.old) (λ r. WasRead r.entries key.now plain.now) }
-    ensures { Grows (PutsPlain output.now key.now plain.now result) (F.rest folder.old) (F.rest folder.new) }
+    ensures put { Grows (PutsPlain output.now key.now plain.now result) (F.rest folder.old) (F.rest folder.new) }
+    // No reader is asked.
+    ensures read { stopped_reading result ≡ false }
 {
     let handle = match folder.create(output) {
         Ok(handle) => handle,
@@ -137,8 +139,9 @@ pub fn put_again<T: Threads + Clock + Sync, F: OpeningFolder>(
     requires workers { (0 < workers) × (workers ≤ MAX_WORKERS) }
     requires idle { IfSome (F.rest folder.old) (λ r. r.in_hand ≡ None) }
     requires read { IfSome (F.rest folder.old) (IsAgainIn key.now header.now (F.Reader.left reader.old)) }
-    ensures { Grows (λ new. (last : List ℕ) × (F.Reader.left reader.old ≡ Some last)
+    ensures put { Grows (λ new. (last : List ℕ) × (F.Reader.left reader.old ≡ Some last)
         × PutsAgain output.now key.now max_bytes header.now last result new) (F.rest folder.old) (F.rest folder.new) }
+    ensures read { F.Reader.failures reader.new ≡ counted (stopped_reading result) (F.Reader.failures reader.old) }
 {
     let handle = match folder.create(output) {
         Ok(handle) => handle,

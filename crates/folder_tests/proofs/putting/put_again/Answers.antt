@@ -1,8 +1,8 @@
-use Rattle.std.proofs.Common.{refl, ap, true}
+use Rattle.std.proofs.Common.{Err, refl, ap, true}
 use Rattle.io_core.specs.Streams.{counted}
 use Rattle.container_core.specs.declared.fault.OpenFault.TheVariants.{Write}
 use Rattle.opening_core.specs.declared.twice.Stopped.TheVariants.{Broken}
-use Rattle.folder_tests.proofs.OnePut.{again_part, again_unfinished, again_whole, may_checked, may_fill_again, put_again_closed}
+use Rattle.folder_tests.proofs.OnePut.{again_part, again_unfinished, again_whole, may_checked, may_fill_again, put_again_closed, stop_of}
 use Rattle.folder_tests.proofs.putting.put_again.Goals as goal
 
 pub allow_checked-requires : goal.allow_checked-requires
@@ -16,8 +16,8 @@ fill_again-requires-clause-may g c κs within =
     (may_checked _ _ _ _ _ _ _ c.requires.idle c.requires.read c.in-Ok.ensures.place c.in-Ok.ensures.created)
     c.allow_checked.ensures.allowed c.allow_checked.ensures.fresh
 
-pub returns-in-Ok-finish_or_discard : goal.returns-in-Ok-finish_or_discard
-returns-in-Ok-finish_or_discard g c =
+pub returns-in-Ok-finish_or_discard-clause-put : goal.returns-in-Ok-finish_or_discard-clause-put
+returns-in-Ok-finish_or_discard-clause-put g c =
     put_again_closed _ _ _ _ _ _ _ _ _ _ _ _ _ _ _ _
     c.requires.idle c.in-Ok.ensures.place c.in-Ok.ensures.created c.allow_checked.ensures.allowed c.allow_checked.ensures.fresh
     c.in-Ok-fill_again.ensures.rest c.in-Ok-finish_or_discard.ensures.finished
@@ -28,8 +28,8 @@ returns-in-Ok-finish_or_discard g c =
           c.in-Ok-fill_again.ensures.written.write bytes n e z t f,
     ))
 
-pub returns-in-Err-finish_or_discard : goal.returns-in-Err-finish_or_discard
-returns-in-Err-finish_or_discard g c =
+pub returns-in-Err-finish_or_discard-clause-put : goal.returns-in-Err-finish_or_discard-clause-put
+returns-in-Err-finish_or_discard-clause-put g c =
     put_again_closed _ _ _ _ _ _ _ _ _ _ _ _ _ _ _ _
     c.requires.idle c.in-Ok.ensures.place c.in-Ok.ensures.created c.allow_checked.ensures.allowed c.allow_checked.ensures.fresh
     c.in-Ok-fill_again.ensures.rest c.in-Err-finish_or_discard.ensures.given_up
@@ -37,11 +37,11 @@ returns-in-Err-finish_or_discard g c =
       last,
       here,
       again_unfinished _ _ _ _ _ _ _ last _ (Broken Write) _ _ here
-          c.in-Ok-fill_again.ensures.written.written refl (ap (counted true) c.in-Ok-fill_again.ensures.written.write) bytes n e z t f,
+          c.in-Ok-fill_again.ensures.written.written refl (λ of. of) (ap (counted true) c.in-Ok-fill_again.ensures.written.write) bytes n e z t f,
     ))
 
-pub returns-in-Err-fill_again : goal.returns-in-Err-fill_again
-returns-in-Err-fill_again g c =
+pub returns-in-Err-fill_again-clause-put : goal.returns-in-Err-fill_again-clause-put
+returns-in-Err-fill_again-clause-put g c =
     put_again_closed _ _ _ _ _ _ _ _ _ _ _ _ _ _ _ _
     c.requires.idle c.in-Ok.ensures.place c.in-Ok.ensures.created c.allow_checked.ensures.allowed c.allow_checked.ensures.fresh
     c.in-Err-fill_again.ensures.rest c.discard.ensures.discarded
@@ -49,5 +49,8 @@ returns-in-Err-fill_again g c =
       last,
       here,
       again_part _ _ _ _ _ _ _ last _ _ _ here c.in-Err-fill_again.ensures.written.begun
-          c.in-Err-fill_again.ensures.written.checked c.in-Err-fill_again.ensures.written.write bytes n e z t f,
+          c.in-Err-fill_again.ensures.written.checked
+          (stop_of _ _ _ last _ _ here (λ is. c.in-Err-fill_again.ensures.written.changed (ap Err is))
+          (λ fault is. c.in-Err-fill_again.ensures.written.checked_before fault (ap Err is))
+          (λ fault is. c.in-Err-fill_again.ensures.written.broken fault (ap Err is))) c.in-Err-fill_again.ensures.written.write bytes n e z t f,
     ))

@@ -16,15 +16,15 @@ fill_plain-requires g c = record {
       c.allow_whole.ensures.allowed c.allow_whole.ensures.fresh;
 }
 
-pub returns-in-Ok-finish_or_discard : goal.returns-in-Ok-finish_or_discard
-returns-in-Ok-finish_or_discard g c =
+pub returns-in-Ok-finish_or_discard-clause-put : goal.returns-in-Ok-finish_or_discard-clause-put
+returns-in-Ok-finish_or_discard-clause-put g c =
     put_closed (λ r. WasRead r.entries c.args.key.now c.args.plain.now) _ _ _ _ _ _ _ _ _ _ _ _ _ _ c.requires.idle c.in-Ok.ensures.place
     c.in-Ok.ensures.created c.allow_whole.ensures.allowed c.allow_whole.ensures.fresh c.in-Ok-fill_plain.ensures.rest
     c.in-Ok-finish_or_discard.ensures.finished c.requires.read
     (λ was p. plain_whole _ _ _ _ _ _ _ c.in-Ok-fill_plain.ensures.ok c.in-Ok-fill_plain.ensures.count)
 
-pub returns-in-Err-finish_or_discard : goal.returns-in-Err-finish_or_discard
-returns-in-Err-finish_or_discard g c =
+pub returns-in-Err-finish_or_discard-clause-put : goal.returns-in-Err-finish_or_discard-clause-put
+returns-in-Err-finish_or_discard-clause-put g c =
     put_closed (λ r. WasRead r.entries c.args.key.now c.args.plain.now) _ _ _ _ _ _ _ _ _ _ _ _ _ _ c.requires.idle c.in-Ok.ensures.place
     c.in-Ok.ensures.created c.allow_whole.ensures.allowed c.allow_whole.ensures.fresh c.in-Ok-fill_plain.ensures.rest
     c.in-Err-finish_or_discard.ensures.given_up c.requires.read
@@ -33,8 +33,8 @@ returns-in-Err-finish_or_discard g c =
     (ap (counted true) c.in-Ok-fill_plain.ensures.count) bytes n e z t f in
     (refl, written, front, is))
 
-pub returns-in-Err-fill_plain : goal.returns-in-Err-fill_plain
-returns-in-Err-fill_plain g c =
+pub returns-in-Err-fill_plain-clause-put : goal.returns-in-Err-fill_plain-clause-put
+returns-in-Err-fill_plain-clause-put g c =
     put_closed (λ r. WasRead r.entries c.args.key.now c.args.plain.now) _ _ _ _ _ _ _ _ _ _ _ _ _ _ c.requires.idle c.in-Ok.ensures.place
     c.in-Ok.ensures.created c.allow_whole.ensures.allowed c.allow_whole.ensures.fresh c.in-Err-fill_plain.ensures.rest
     c.discard.ensures.discarded c.requires.read

@@ -1,5 +1,5 @@
 use Rattle.folder_tests.proofs.Two.{one_may}
-use Rattle.folder_tests.proofs.restored.opened_within.Goals as goal
+use Rattle.folder_tests.proofs.openings.opened_within.Goals as goal
 
 pub allow_container-requires : goal.allow_container-requires
 allow_container-requires g c = record {
