@@ -760,17 +760,22 @@ sealed files/b file 1 bytes 1492' ''
     rm files/g5000000 files/g20000000
     mkdir files/open
     within() { (ulimit -v "$1"; exec "$sealer" "${@:2}") > out 2> err; status=$?; rm -f files/open/*; }
-    for limit in $(seq 8000 1500 44000); do
-        for words in 'verify files/g5000000.stm files/g20000000.stm' 'open --into files/open files/g20000000.stm'; do
+    passed=0
+    for limit in $(seq 6000 1000 44000); do
+        for words in 'verify files/g5000000.stm files/g20000000.stm' 'open --into files/open files/g20000000.stm' 'unpipe files/g20000000.stm'; do
             read -ra words <<< "$words"
             within "$limit" "${words[0]}" --key "$key" "${words[@]:1}"
             [ $status = 0 ] || continue
+            passed=$((passed + 1))
             for workers in 4 16; do
                 within "$limit" "${words[0]}" --key "$key" --workers $workers "${words[@]:1}"
                 is "workers-within $limit $workers ${words[0]}" test $status = 0
             done
         done
     done
+    is one-worker-within-most-limits test $passed -gt 90
+    strace -f -e trace=clone,clone3 -o calls prlimit --as=45056000 "$sealer" verify --key "$key" --workers 16 files/g5000000.stm files/g20000000.stm > out 2> err
+    is workers-without-room test "$? $(grep -c 'clone3\?(' calls)" = '0 0'
     rm -r files/open
     # The memory of one file serves the next: the system isn't asked for more, or given some back, for each file (threads have stacks besides).
     fresh
