@@ -119,8 +119,8 @@ def starts(name, size, count):
     if command == "seal":
         return count, max(min(int(several), size // 64), 1) - 1
     if command in ("verify", "open"):
-        readings = 2 if command == "open" else 1
-        return readings * count, max(min(int(several), size // SHARE), 1) - 1
+        # once a run, all that are asked for
+        return 1, int(several) - 1 if size >= 2 * SHARE else 0
     return 0, 0
 
 
