@@ -1,10 +1,8 @@
 -- A file that is set is an entry that changes.
 use Rattle.std.proofs.Common.{◌≡◌, ℕ, zero, suc, ◌<◌, ◌≤◌, List, [], ◌∷◌, length, map, refl, ap, ◌∙◌, arith, get_or, slice_set}
-use Rattle.folder_core.specs.Record.{Content, Output}
-use Rattle.folder_core.specs.Record as run
+use Rattle.folder_core.specs.Record.{Output}
 use Rattle.folder_core.specs.Changes.{change, changed}
 use Rattle.folder_tests.specs.Memory.{entry_of}
-use Rattle.folder_tests.specs.Noted.{content_of, noted}
 use Rattle.folder_tests.specs.declared.pages.MemoryEntry.{MemoryEntry}
 
 pub set_changes : (f : Output → Output) (n : ℕ) (l : List MemoryEntry) (x y : MemoryEntry) → n < length l → x ≡ get_or l n x
@@ -17,13 +15,3 @@ pub past_changes : (f : Output → Output) (n : ℕ) (l : List MemoryEntry) → 
 past_changes f n [] past = refl
 past_changes f zero (z ∷ l) past = absurd (omega arith)
 past_changes f (suc n) (z ∷ l) past = ap (λ k. entry_of z ∷ k) (past_changes f n l (omega arith))
-
-pub entries_len : (l : List MemoryEntry) → length l ≡ length (map entry_of l)
-entries_len [] = refl
-entries_len (z ∷ l) = ap suc (entries_len l)
-
-pub noted_again : (content : Content) → content_of (noted content) ≡ content
-noted_again run.Nothing = refl
-noted_again (run.Container number shape) = refl
-noted_again (run.Plain key whole) = refl
-noted_again (run.Checked key header last) = refl

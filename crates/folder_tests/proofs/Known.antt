@@ -1,5 +1,5 @@
 -- The record of a folder in memory, unless it was forgotten.
-use Rattle.std.proofs.Common.{◌≡◌, ◌∙◌, ℕ, Bool, true, false, List, [], length, Option, None, Some, MatchOption, refl, sym, ap, subst}
+use Rattle.std.proofs.Common.{◌≡◌, ◌∙◌, ℕ, Bool, true, false, List, [], Option, None, Some, MatchOption, refl, sym, ap, subst}
 use Rattle.std.specs.Prelude.{IfSome}
 use Rattle.folder_core.specs.Record.{Checked, Closed, Entry, GivenUp, RunRecord, State}
 use Rattle.folder_core.specs.Changes.{Becomes, MayHold, Tells, closed_at, with_entry}
@@ -18,10 +18,6 @@ becomes_by f false true r r' same is = absurd (cc)
 pub hand_by : (told : Bool) (r : RunRecord) (place : Option ℕ) → r.in_hand ≡ place → IfSome (rest_by told r) (λ x. x.in_hand ≡ place)
 hand_by true r place is = is
 hand_by false r place is = tt
-
-pub place_by : (told : Bool) (r : RunRecord) (n : ℕ) → n ≡ length r.entries → IfSome (rest_by told r) (λ was. n ≡ length was.entries)
-place_by true r n is = is
-place_by false r n is = tt
 
 pub sound_by : (told : Bool) (r : RunRecord) (taken : List ℕ) → IsSoundWith (Some r) (Some taken) → Keeps (rest_by told r) taken
 sound_by true r taken sound = ∣ sound ∣₁

@@ -1,5 +1,5 @@
 -- One output that is created, filled and closed: what it may hold before each call, and what is known at the end.
-use Rattle.std.proofs.Common.{◌≡◌, inl, inr, ℕ, suc, Bool, true, false, cond, List, [], ◌∷◌, ◌++◌, length, Option, None, Some, refl, sym, ap, ap₂, ◌∙◌, subst, append-nil}
+use Rattle.std.proofs.Common.{◌≡◌, inl, inr, ℕ, suc, Bool, true, false, List, [], ◌∷◌, ◌++◌, length, Option, None, Some, refl, sym, ap, ap₂, ◌∙◌, subst, append-nil}
 use Rattle.std.specs.Prelude.{⊤, ◌⊎◌, IfSome, Ok, Err, slice_get, option_map, if◌then◌else◌}
 use Rattle.container_core.specs.Opening.{opening}
 use Rattle.io_core.specs.Streams.{Appends, AppendsFront, IsFront, Keeps, counted}
@@ -12,10 +12,10 @@ use Rattle.opening_core.specs.Twice.{MayWrite, WritesAll, WritesSome, broken_by_
 use Rattle.opening_core.specs.Windows.{HasSent}
 use Rattle.output_core.specs.Bounds.{Admits, Allows}
 use Rattle.folder_core.specs.Record.{Checked, Content, Created, Entry, Finished, GivenUp, IsAllowed, Plain, RunRecord, State, WasRead, WasReadAgain, bound_in, bound_of, content_at}
-use Rattle.folder_core.specs.Changes.{Becomes, Closes, IsFresh, IsNumberFree, MayHold, allowed, change, new_output, set_content, with_entry}
+use Rattle.folder_core.specs.Changes.{Becomes, Closes, IsFresh, IsNumberFree, MayHold, allowed, new_output, set_content, with_entry}
 use Rattle.folder_core.specs.Growth.{Grows, PutsOut}
 use Rattle.folder_core.proofs.Entries.{change_get, get_end, get_more}
-use Rattle.folder_core.proofs.Growth.{grows_by, puts_out}
+use Rattle.folder_core.proofs.Growth.{puts_out}
 use Rattle.folder_tests.specs.Putting.{IsAgainIn, IsPartOf, IsStop, closed_output, failed_writes}
 
 -- nothing is in hand
@@ -152,15 +152,6 @@ put_again_closed kind name key header left state place start taken zero failures
     anything : (rest : Option RunRecord) → IfSome rest (λ _. ⊤)
     anything None = tt
     anything (Some r) = tt
-
--- it was refused
-pub put_refused : (P : RunRecord → Type 0) (kind : List Entry → Type 0) (entry : Entry) (before after : Option RunRecord)
-    → IfSome before P → Becomes (with_entry entry) before after → ((was : RunRecord) → P was → kind (entry ∷ []))
-    → Grows kind before after
-put_refused P kind entry before None p came makes = tt
-put_refused P kind entry None (Some after) p came makes = absurd (grows_by (λ _. ⊤) entry tt None (Some after) came)
-put_refused P kind entry (Some before) (Some after) p came makes =
-    grows_by kind entry (makes before p) (Some before) (Some after) came
 
 whole_is : (start taken : Option (List ℕ)) (bytes plain : List ℕ) → start ≡ Some [] → taken ≡ Some bytes → Appends start taken plain
     → bytes ≡ plain

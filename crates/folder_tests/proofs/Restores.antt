@@ -1,11 +1,11 @@
 -- A file that is read, and then opened to an output.
-use Rattle.std.proofs.Common.{◌≡◌, ◌∙◌, inl, inr, ℕ, suc, Bool, List, [], ◌∷◌, ◌++◌, length, Option, None, Some, refl, sym, ap, subst, append-nil, length-append, arith}
+use Rattle.std.proofs.Common.{◌≡◌, ◌∙◌, inl, inr, ℕ, suc, Bool, List, [], ◌∷◌, ◌++◌, length, Option, None, Some, refl, sym, ap, subst, length-append, arith}
 use Rattle.std.specs.Prelude.{◌⊎◌, IfSome, Result, Ok, Err, slice_get, if◌then◌else◌}
 use Rattle.container_core.specs.Opening.{opening}
 use Rattle.io_core.specs.Streams.{counted}
 use Rattle.opening_core.specs.Engine.{HasHeader, OpensTo}
-use Rattle.folder_core.specs.Record.{Closed, Entry, Event, Happened, Read, Repeated, RunRecord, Unread, WasRead, WasReadAgain}
-use Rattle.folder_core.specs.Changes.{Becomes, Tells, TellsBytes, with_entry}
+use Rattle.folder_core.specs.Record.{Closed, Entry, Event, Happened, Read, Repeated, RunRecord, WasRead, WasReadAgain}
+use Rattle.folder_core.specs.Changes.{Tells, TellsBytes}
 use Rattle.folder_core.specs.Growth.{Grows}
 use Rattle.folder_core.proofs.Entries.{get_end, get_more}
 use Rattle.folder_core.proofs.Growth.{grows_by, grows_on}
@@ -14,7 +14,7 @@ use Rattle.folder_tests.specs.declared.restoring.RestoreFault.TheVariants as fau
 use Rattle.folder_tests.specs.declared.putting.FillFault.{FillFault}
 use Rattle.folder_tests.specs.Putting.{IsAgainIn, PutsAgain}
 use Rattle.folder_tests.specs.Restoring.{IsReading, PutsTwice, Restores, RestoresOnce, RestoresTwice, failed_reading}
-use Rattle.folder_tests.proofs.OnePut.{IsIdle, count_is}
+use Rattle.folder_tests.proofs.OnePut.{count_is}
 
 -- ---- what was added
 
@@ -24,25 +24,6 @@ pub grows_as : (P : RunRecord → Type 0) (p q : List Entry → Type 0) → ((wa
 grows_as P p q f before None known grew = tt
 grows_as P p q f None (Some after) known grew = absurd grew
 grows_as P p q f (Some before) (Some after) known (new, of, is) = (new, f before known new of, is)
-
--- nothing came
-pub grows_none : (P : RunRecord → Type 0) (q : List Entry → Type 0) → ((was : RunRecord) → P was → q [])
-    → (rest : Option RunRecord) → IfSome rest P → Grows q rest rest
-grows_none P q f None known = tt
-grows_none P q f (Some r) known = ([], f r known, ap (λ l. record r { entries = l }) (sym (append-nil r.entries)))
-
--- a fact that was known as long as the record was
-pub grown_still : (P : Type 0) (kind : List Entry → Type 0) (before after : Option RunRecord) → IfSome before (λ _. P)
-    → Grows kind before after → IfSome after (λ _. P)
-grown_still P kind before None p grew = tt
-grown_still P kind None (Some r) p grew = absurd grew
-grown_still P kind (Some was) (Some r) p grew = p
-
-pub told_idle : (event : List ℕ → Event) (left : Option (List ℕ)) (before after : Option RunRecord)
-    → TellsBytes event left before after → IsIdle before → IsIdle after
-told_idle event left before None tells idle = tt
-told_idle event left before (Some r) (bytes, here, (was, known, is)) idle =
-    subst (λ x. x.in_hand ≡ None) (sym is) (subst IsIdle known idle)
 
 pub told_grows : (event : List ℕ → Event) (left : Option (List ℕ)) (before after : Option RunRecord)
     → TellsBytes event left before after
@@ -56,11 +37,6 @@ told_grows event left before (Some r) (bytes, here, came) =
 
 known_at : (P : List ℕ → Type 0) (left : Option (List ℕ)) (bytes : List ℕ) → left ≡ Some bytes → IfSome left P → P bytes
 known_at P left bytes is p = subst (λ o. IfSome o P) is p
-
-pub then_reading : (name : List ℕ) (left : Option (List ℕ)) (before after : Option RunRecord)
-    → TellsBytes (Read name) left before after → IfSome after (IsReading name left)
-then_reading name left before None tells = tt
-then_reading name left before (Some r) (bytes, here, (was, known, is)) = (was.entries, bytes, here, ap (λ (x : RunRecord). x.entries) is)
 
 pub was_read : (name key plain : List ℕ) (most : ℕ) (left : Option (List ℕ)) (rest : Option RunRecord)
     → IfSome rest (IsReading name left) → IfSome left (λ input. opening key most input ≡ Ok plain)
