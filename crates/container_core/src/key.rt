@@ -10,6 +10,9 @@ use std::marker::Model;
 #[derive(Drop)]
 pub struct Key {
     secret: [u8; 32],
+    // The first 7 bytes of its ID, computed once: each file needs them, and SHA-256 costs as much as a chunk of 1 KiB.
+    hint: [u8; 7],
+    ghost named: { hint ≡ hint_of secret },
 }
 
 impl Model for Key {
@@ -22,10 +25,13 @@ impl Model for Key {
 
 impl Key {
     /// Makes the key of these bytes.
+    #[tactic(auto, unfolding(crate::specs::Container::hint_of))]
     pub fn new(secret: [u8; 32]) -> Key
         ensures { result ≡ secret }
     {
-        Key { secret }
+        let mut hint = [0; 7];
+        hint.copy_from_slice(&Sha256::digest(secret.as_slice())[..7]);
+        Key { secret, hint }
     }
 
     /// Returns the key's ID: the SHA-256 of its bytes (FIPS 180-4).
@@ -43,12 +49,9 @@ impl Key {
     }
 
     // The first 7 bytes of the key's ID.
-    #[tactic(auto, unfolding(crate::specs::Container::hint_of))]
     pub(crate) fn hint(&self) -> [u8; 7]
         ensures { result ≡ hint_of self.now }
     {
-        let mut hint = [0; 7];
-        hint.copy_from_slice(&self.id()[..7]);
-        hint
+        self.hint
     }
 }
