@@ -12,7 +12,10 @@ use std::alloc::{AllocError, Global};
 use std::marker::Model;
 use std::mem;
 
-// Most bytes by which the buffer grows at once.
+// Bytes by which the buffer grows first, since a small file needs no more.
+const FIRST_STEP: usize = 1 << 13;
+
+// Most bytes by which it grows at once.
 const STEP: usize = 1 << 16;
 
 static ZEROS: [u8; STEP] = [0; STEP];
@@ -89,7 +92,8 @@ fn read_behind<R: Source>(
     ensures room { vec_capacity bytes.old ≤ vec_capacity bytes.new }
 {
     if bytes.len() == held {
-        grow(bytes, (upto - held).min(STEP));
+        let step = if held < FIRST_STEP { FIRST_STEP } else { STEP };
+        grow(bytes, (upto - held).min(step));
     }
     let end = bytes.len().min(upto);
     read_between(source, bytes.as_mut_slice(), held, end)
