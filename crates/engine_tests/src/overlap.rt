@@ -101,6 +101,7 @@ fn seal_held_from<T: Threads + Wait + Sync>(
     });
     let mut writer = ToMemory::new(alloc, 1 << 20, usize::MAX, Schedule::Never).ok()?;
     let key = counting_key();
+    let mut kept = Vec::new(alloc);
     let (result, _) = run_seal_by(
         rt,
         alloc,
@@ -113,6 +114,7 @@ fn seal_held_from<T: Threads + Wait + Sync>(
         workers,
         2,
         &others,
+        &mut kept,
     );
     Some(result)
 }

@@ -38,6 +38,7 @@ pub(crate) fn seal_by<T: Threads + Wait + Sync, R: Source, W: Sink>(
     let key = counting_key();
     let shape = Shape::one();
     let grant = grant_of(alloc, 0)?;
+    let mut kept = Vec::new(alloc);
     let (result, spent) = if window == DEFAULT_WINDOW {
         run_seal(
             rt, alloc, &key, &shape, grant, reader, writer, max_bytes, workers, &Free,
@@ -45,6 +46,7 @@ pub(crate) fn seal_by<T: Threads + Wait + Sync, R: Source, W: Sink>(
     } else {
         run_seal_by(
             rt, alloc, &key, &shape, grant, reader, writer, max_bytes, workers, window, &Free,
+            &mut kept,
         )
     };
     Some((result, spent.way()))

@@ -17,13 +17,15 @@ const MOST: u64 = 1 << 20;
 // The chunks of a window.
 const WINDOW: u32 = 2;
 
-// Whether the output holds the container of a plaintext, sealed into it with `workers` workers as file 5.
+// Whether the output holds the container of a plaintext, sealed into it with `workers` workers as file 5. `kept` is the
+// buffer of the plaintext before.
 fn holds_sealed<T: Threads + Wait + Sync>(
     rt: &T,
     alloc: Global,
     shape: &Shape,
     plain: &[u8],
     workers: u32,
+    kept: &mut Vec<u8>,
 ) -> Option<bool>
     requires workers { (0 < workers) × (workers ≤ MAX_WORKERS) }
 {
@@ -45,24 +47,24 @@ fn holds_sealed<T: Threads + Wait + Sync>(
         workers,
         WINDOW,
         &Free,
+        kept,
     );
     Some(result == Ok(plain.len() as u64) && output.bytes.as_slice() == whole.as_slice())
 }
 
-// Lengths at the ends of chunks and windows, next to them, and elsewhere.
-static COUNTS: [usize; 7] = [0, 1, 4_096, 4_097, 8_192, 8_193, 30_000];
+// Lengths at the ends of chunks and windows, next to them, and elsewhere. A buffer that is kept had longer plaintexts
+// and shorter ones.
+static COUNTS: [usize; 7] = [8_193, 30_000, 1, 4_097, 0, 8_192, 4_096];
 
-// Whether it does for each of these lengths, in version 1 and in small chunks, with one worker and with two.
-fn all_hold<T: Threads + Wait + Sync>(rt: &T, alloc: Global) -> Option<bool> {
-    let one = Shape::one();
-    let two = Shape::two(12, b"home").ok()?;
-    for count in &COUNTS {
-        let plain = pattern(alloc, *count).ok()?;
-        let plain = plain.as_slice();
+// Whether it does for each of these lengths, with one worker and with two. Where two plaintexts have a byte in one place
+// it is another one.
+fn all_hold<T: Threads + Wait + Sync>(rt: &T, alloc: Global, shape: &Shape) -> Option<bool> {
+    let mut kept = Vec::new(alloc);
+    for turn in 0..COUNTS.len() {
+        let plain = pattern(alloc, COUNTS[turn] + turn).ok()?;
+        let plain = &plain.as_slice()[turn..];
         for workers in [1, 2] {
-            if !holds_sealed(rt, alloc, &one, plain, workers)?
-                || !holds_sealed(rt, alloc, &two, plain, workers)?
-            {
+            if !holds_sealed(rt, alloc, shape, plain, workers, &mut kept)? {
                 return Some(false);
             }
         }
@@ -72,5 +74,9 @@ fn all_hold<T: Threads + Wait + Sync>(rt: &T, alloc: Global) -> Option<bool> {
 
 #[test]
 fn a_sealing_is_taken(rt: HostRuntime) {
-    assert!(rt; all_hold(&rt, rt.alloc()) == Some(true));
+    assert!(rt; all_hold(&rt, rt.alloc(), &Shape::one()) == Some(true));
+    let Ok(two) = Shape::two(12, b"home") else {
+        panic!(rt; "a label of four bytes is refused");
+    };
+    assert!(rt; all_hold(&rt, rt.alloc(), &two) == Some(true));
 }

@@ -69,6 +69,7 @@ fn seals_to<R: Threads + Wait + Sync>(
     let mut reader = FromMemory::new(plain, 70_001, Schedule::Never);
     let mut writer = ToMemory::new(alloc, 64, MOST, Schedule::Never).ok()?;
     let grant = grant_of(alloc, 0)?;
+    let mut kept = Vec::new(alloc);
     let (result, spent) = run_seal_by(
         rt,
         alloc,
@@ -81,6 +82,7 @@ fn seals_to<R: Threads + Wait + Sync>(
         workers,
         window,
         &Free,
+        &mut kept,
     );
     let is_sealed = result == Ok(plain.len() as u64) && spent.way() == Way::Sealed;
     Some(is_sealed && writer.bytes() == bytes)

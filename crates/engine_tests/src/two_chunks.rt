@@ -46,6 +46,7 @@ fn seal_zeros<R: Threads + Wait + Sync>(
     let grant = grant_of(alloc, 0)?;
     let mut reader = FromMemory::new(&ZERO_BYTES, step, Schedule::Never);
     let (key, shape) = (counting_key(), Shape::one());
+    let mut kept = Vec::new(alloc);
     let (result, spent) = run_seal_by(
         rt,
         alloc,
@@ -58,6 +59,7 @@ fn seal_zeros<R: Threads + Wait + Sync>(
         2,
         WINDOW,
         &Free,
+        &mut kept,
     );
     Some((result, spent.way()))
 }

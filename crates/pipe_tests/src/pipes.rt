@@ -110,8 +110,9 @@ pub fn in_rounds<T: Threads + Wait + Sync, R: Source, W: Sink, G: Gate + Sync>(
     {
         return None;
     }
+    let mut kept = Vec::new(alloc);
     Some(pipe_rounds(
-        rt, alloc, &key, &header, reader, writer, max_bytes, workers, window, gate,
+        rt, alloc, &key, &header, reader, writer, max_bytes, workers, window, gate, &mut kept,
     ))
 }
 

@@ -190,8 +190,17 @@ fn refuse_group<L: Report>(alloc: Global, names: &[&str], lines: &mut L, start: 
     status
 }
 
-// Seals the files of a group, at most as many as there are seats. Plaintexts are read into the memory of `rooms`, which
-// then has those of this group. Returns the status so far.
+// Memory that is used again from group to group.
+#[derive(Drop)]
+struct Kept {
+    // The plaintexts of the last group, of several lanes.
+    texts: Vec<Vec<u8>>,
+    // The last block of the last file, of one lane.
+    block: Vec<u8>,
+}
+
+// Seals the files of a group, at most as many as there are seats. What is read goes into the memory that was kept.
+// Returns the status so far.
 fn seal_group<T: Threads + Wait + Sync, F: SealingFolder, L: Report>(
     rt: &T,
     alloc: Global,
@@ -201,7 +210,7 @@ fn seal_group<T: Threads + Wait + Sync, F: SealingFolder, L: Report>(
     folder: &mut F,
     options: &SealOptions,
     names: &[&str],
-    rooms: &mut Vec<Vec<u8>>,
+    kept: &mut Kept,
     lines: &mut L,
     status: u8,
 ) -> u8
@@ -219,15 +228,17 @@ fn seal_group<T: Threads + Wait + Sync, F: SealingFolder, L: Report>(
 {
     if seats.len() == 1 {
         let name = names[0];
-        let outcome = seal_file(rt, alloc, key, ledger, seats, folder, options, name);
+        let block = &mut kept.block;
+        let outcome = seal_file(rt, alloc, key, ledger, seats, folder, options, name, block);
         return tell(alloc, lines, status, name, outcome);
     }
-    let Ok((files, jobs)) = prepare_group(alloc, folder, names, options.max_bytes, rooms) else {
+    let Ok((files, jobs)) = prepare_group(alloc, folder, names, options.max_bytes, &mut kept.texts)
+    else {
         return refuse_group(alloc, names, lines, status);
     };
     let (texts, shape) = (jobs.as_slice(), options.shape);
     let outcomes = seal_jobs(rt, alloc, key, ledger, seats, texts, shape);
-    *rooms = jobs;
+    kept.texts = jobs;
     meet_seats(ledger, seats);
     end_group(
         alloc, key, shape, ledger, seats, folder, lines, status, files, outcomes,
@@ -258,12 +269,15 @@ pub(crate) fn seal_groups<T: Threads + Wait + Sync, F: SealingFolder, L: Report>
 {
     let mut status = 0;
     let mut done = 0;
-    let mut rooms = Vec::new(alloc);
+    let mut kept = Kept {
+        texts: Vec::new(alloc),
+        block: Vec::new(alloc),
+    };
     while done < options.files.len() {
         let (_, rest) = options.files.split_at(done);
         let (group, _) = rest.split_at(rest.len().min(seats.len()));
         status = seal_group(
-            rt, alloc, key, ledger, seats, folder, options, group, &mut rooms, lines, status,
+            rt, alloc, key, ledger, seats, folder, options, group, &mut kept, lines, status,
         );
         done += group.len();
     }

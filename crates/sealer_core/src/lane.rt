@@ -17,9 +17,10 @@ ghost use Rattle.sealer_core.specs.Sealing.{Accounts, Happened, IsClosed, IsOfSe
 ghost use Rattle.sealer_core.specs.Sealing.{AreLawful, operations_of, unissued_as};
 
 use crate::sealing::SealOptions;
-use command_core::{FileFault, FileOutcome, Folder, FolderFault, SealingFolder};
+use command_core::{FileFault, FileOutcome, Folder, SealingFolder};
 use container_core::{Key, SealFault};
 use crew_core::Free;
+use folder_core::FolderFault;
 use ledger_core::{Grant, IssueFault, Ledger, Seat, Spent};
 use sealing_core::run_seal_by;
 use std::alloc::Global;
@@ -162,7 +163,8 @@ pub(crate) fn end_output<F: Folder>(
 
 /// Seals one file with the one seat. Opens its input, creates its output, asks the length of the input, and issues the
 /// file's number, in this order; then its container may begin. Of an input that was too long when it was opened nothing
-/// is read, and no number is issued. Of any other what is read decides.
+/// is read, and no number is issued. Of any other what is read decides. `kept` is the buffer of the last file's last
+/// block.
 pub(crate) fn seal_file<T: Threads + Wait + Sync, F: SealingFolder>(
     rt: &T,
     alloc: Global,
@@ -172,6 +174,7 @@ pub(crate) fn seal_file<T: Threads + Wait + Sync, F: SealingFolder>(
     folder: &mut F,
     options: &SealOptions,
     name: &str,
+    kept: &mut Vec<u8>,
 ) -> FileOutcome
     requires owing { AreOwing ledger.now seats.old [] }
     requires one { length seats.old ≡ 1 }
@@ -213,6 +216,7 @@ pub(crate) fn seal_file<T: Threads + Wait + Sync, F: SealingFolder>(
         workers,
         window,
         &Free,
+        kept,
     );
     end_output(ledger, seats, 0, spent, folder, writer, sealed)
 }

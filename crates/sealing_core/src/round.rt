@@ -15,6 +15,7 @@ use crate::context::SealingContext;
 use crate::intake::Intake;
 use crate::line::Naming;
 use crate::piece::Task;
+use crate::spare::kept_or_new;
 use claim_core::Gate;
 use container_core::SealFault;
 use io_core::{Failed, Source};
@@ -159,10 +160,11 @@ impl Round {
         true
     }
 
-    // Reads the first round.
+    // Reads the first round, its first block into the buffer that was kept, if that fits.
     pub(crate) fn read_first<N: Naming, R: Source, G: Gate>(
         &mut self,
         alloc: Global,
+        kept: &mut Vec<u8>,
         reader: &mut R,
         context: &SealingContext<'_, N, G>,
     ) -> Result<(), SealFault>
@@ -183,7 +185,7 @@ impl Round {
         let room = context.room_bytes();
         let plan = context.plan;
         'first: while self.is_open() && self.held.len() < plan.group {
-            let Ok(buffer) = vec![in alloc; 0; room] else {
+            let Ok(buffer) = kept_or_new(alloc, kept, room) else {
                 return Err(SealFault::OutOfMemory);
             };
             match self.read::<N, R>(reader, size, plan.limit, buffer) {

@@ -26,6 +26,7 @@ use io_core::{Failed, Source};
 use output_core::Output;
 use std::alloc::Global;
 use std::marker::{Brand, PhantomData};
+use std::mem;
 use std::sync::Wait;
 use std::thread::Threads;
 
@@ -136,6 +137,7 @@ fn rounds_named<
     plan: Plan,
     workers: u32,
     gate: &G,
+    kept: &mut Vec<u8>,
 ) -> Result<u64, SealFault>
     requires named { (key.now ≡ N.key) × (header.now ≡ N.header) × (R.left reader.old ≡ N.told) }
     requires plan { IsPlan N.each N.header plan × (plan.depth ≤ 2 ^ 20) }
@@ -158,7 +160,7 @@ fn rounds_named<
     let Ok(mut round) = Round::new(alloc, plan.group) else {
         return Err(SealFault::OutOfMemory);
     };
-    if let Err(fault) = round.read_first(alloc, reader, &context) {
+    if let Err(fault) = round.read_first(alloc, kept, reader, &context) {
         return Err(fault);
     }
     if round.intake.over {
@@ -170,9 +172,13 @@ fn rounds_named<
         workers
     };
     if round.intake.ended && workers == 1 {
-        return alone(&context, writer, &mut round);
+        let sealed = alone(&context, writer, &mut round);
+        *kept = mem::replace(&mut round.last, Vec::new(alloc));
+        return sealed;
     }
-    through(rt, alloc, &context, reader, writer, &mut round, workers).0
+    let (sealed, _) = through(rt, alloc, &context, reader, writer, &mut round, workers);
+    *kept = mem::replace(&mut round.last, Vec::new(alloc));
+    sealed
 }
 
 /// Seals an input of at most `max_bytes` bytes (2^40 at most) under a header of this key, in rounds of `window` chunks
@@ -189,6 +195,9 @@ fn rounds_named<
 /// are written. `OutOfMemory` if memory for a queue, the workers' bells or the buffers of two windows was refused: then
 /// nothing is written.
 ///
+/// `kept` is the last block's buffer of the input before, or empty. It is read into first, and has such a buffer, or is
+/// empty, at the end. Nothing of what it held is written.
+///
 /// If the writer is bounded, its bound must allow all that is written of any input. So a killed run left at most a
 /// front of that.
 pub fn pipe_rounds<T: Threads + Wait + Sync, R: Source, W: Output, G: Gate + Sync>(
@@ -202,6 +211,7 @@ pub fn pipe_rounds<T: Threads + Wait + Sync, R: Source, W: Output, G: Gate + Syn
     workers: u32,
     window: u32,
     gate: &G,
+    kept: &mut Vec<u8>,
 ) -> Result<u64, SealFault>
     requires hint { take 7 (drop 17 header.now) ≡ hint_of key.now }
     requires max_bytes { max_bytes ≤ MAX_PLAIN }
@@ -223,5 +233,7 @@ pub fn pipe_rounds<T: Threads + Wait + Sync, R: Source, W: Output, G: Gate + Syn
         each,
         eager: false,
     };
-    rounds_named::<Brand, T, R, W, G>(rt, alloc, key, header, reader, writer, plan, workers, gate)
+    rounds_named::<Brand, T, R, W, G>(
+        rt, alloc, key, header, reader, writer, plan, workers, gate, kept,
+    )
 }

@@ -31,6 +31,9 @@ use std::thread::Threads;
 /// written: two windows of chunks, two queues, and a bell for each worker. An input that ends within the first round
 /// needs only a buffer for each chunk, or for each block of small ones. It needs no queue where one worker suffices.
 ///
+/// `kept` is empty, or the buffer that the call before left there: it is read into first. Nothing of what it held is
+/// written.
+///
 /// What the writer may hold, where that is bounded, has to allow the container of any plaintext. So a run that is
 /// killed leaves no more than a prefix of the container.
 pub fn run_seal_by<T: Threads + Wait + Sync, R: Source, W: Output, G: Gate + Sync>(
@@ -45,6 +48,7 @@ pub fn run_seal_by<T: Threads + Wait + Sync, R: Source, W: Output, G: Gate + Syn
     workers: u32,
     window: u32,
     gate: &G,
+    kept: &mut Vec<u8>,
 ) -> (Result<u64, SealFault>, Spent)
     requires max_bytes { max_bytes ≤ MAX_PLAIN }
     requires workers { (0 < workers) × (workers ≤ MAX_WORKERS) }
@@ -65,7 +69,7 @@ pub fn run_seal_by<T: Threads + Wait + Sync, R: Source, W: Output, G: Gate + Syn
 {
     let header = Header::of(key, shape, grant.prefix());
     match pipe_rounds(
-        rt, alloc, key, &header, reader, writer, max_bytes, workers, window, gate,
+        rt, alloc, key, &header, reader, writer, max_bytes, workers, window, gate, kept,
     ) {
         Ok(bytes) => (Ok(bytes), grant.used()),
         Err(fault) => (Err(fault), grant.waste()),
@@ -98,6 +102,7 @@ pub fn run_seal<T: Threads + Wait + Sync, R: Source, W: Output, G: Gate + Sync>(
     ensures sealed { OnOk result.0 (result.1 ≡ spent_as grant Sealed) }
     ensures void { OnErr result.0 (result.1 ≡ spent_as grant Void) }
 {
+    let mut kept = Vec::new(alloc);
     run_seal_by(
         rt,
         alloc,
@@ -110,5 +115,6 @@ pub fn run_seal<T: Threads + Wait + Sync, R: Source, W: Output, G: Gate + Sync>(
         workers,
         DEFAULT_WINDOW,
         gate,
+        &mut kept,
     )
 }

@@ -2,6 +2,7 @@
 ghost use Rattle.std.specs.Prelude.{◌≡◌, ◌<◌, length, All, IfOk, IfSome};
 
 use std::alloc::{AllocError, Global};
+use std::mem;
 
 /// Returns `count` buffers of `size` bytes, each for a block and its tags.
 pub(crate) fn buffers(alloc: Global, count: usize, size: usize) -> Result<Vec<Vec<u8>>, AllocError>
@@ -12,6 +13,21 @@ pub(crate) fn buffers(alloc: Global, count: usize, size: usize) -> Result<Vec<Ve
         spare.push_reserved(vec![in alloc; 0; size]?);
     }
     Ok(spare)
+}
+
+/// Takes the buffer that was kept of the last input, if it has `size` bytes, or else makes one.
+pub(crate) fn kept_or_new(
+    alloc: Global,
+    kept: &mut Vec<u8>,
+    size: usize,
+) -> Result<Vec<u8>, AllocError>
+    ensures { IfOk result (λ buffer. length buffer.items ≡ size) }
+{
+    if kept.len() == size {
+        Ok(mem::replace(kept, Vec::new(alloc)))
+    } else {
+        vec![in alloc; 0; size]
+    }
 }
 
 /// Takes a buffer for another block, if one is spare, reading needn't wait, and `count` blocks are fewer than `depth`.

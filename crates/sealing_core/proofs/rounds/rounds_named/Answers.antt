@@ -53,7 +53,7 @@ returns-then-workers-eq1 g c =
     record {
       sealed = rounds_as _ _ _ _ _ _ _ _ _ _ _ _ _ _ _ _ _ _ n.0 n.1 n.2 refl refl
           (rounds_counts _ _ _ _ _ _ _ _ _ _ _ _ _ _ _ _ _ (c.bytes.ensures.bytes ∙ n.1) r.count refl
-          (c.alone.ensures.sealed _ (g.R.Source.failures c.read_first.new.reader) c.args.plan.limit c.args.plan.group c.requires.plan.0.limit.0 r.hand));
+          (c.alone-sealed.ensures.sealed _ (g.R.Source.failures c.read_first.new.reader) c.args.plan.limit c.args.plan.group c.requires.plan.0.limit.0 r.hand));
     }
 
 pub returns : goal.returns
@@ -62,11 +62,11 @@ returns g c =
     let r = c.in_default-read_first.ensures in
     record {
       sealed = rounds_as _ _ _ _ _ _ _ _ _ _ _ _ _ _ _ _ _ _ n.0 n.1 n.2 refl refl
-          (rounds_counts _ _ _ _ _ _ _ _ _ _ _ _ _ _ _ _ _ (c.bytes.ensures.bytes ∙ n.1) r.count refl c.through.ensures.sealed);
+          (rounds_counts _ _ _ _ _ _ _ _ _ _ _ _ _ _ _ _ _ (c.bytes.ensures.bytes ∙ n.1) r.count refl c.through-sealed.ensures.sealed);
     }
 
-pub alone-requires-clause-may : goal.alone-requires-clause-may
-alone-requires-clause-may g c = let n = c.requires.named in may_as _ _ _ _ _ _ _ _ (sym c.bytes.ensures.bytes) n.0 n.1 c.requires.may
+pub alone-sealed-requires-clause-may : goal.alone-sealed-requires-clause-may
+alone-sealed-requires-clause-may g c = let n = c.requires.named in may_as _ _ _ _ _ _ _ _ (sym c.bytes.ensures.bytes) n.0 n.1 c.requires.may
 
-pub through-requires-clause-may : goal.through-requires-clause-may
-through-requires-clause-may g c κs within = let n = c.requires.named in may_as _ _ _ _ _ _ _ _ (sym c.bytes.ensures.bytes) n.0 n.1 c.requires.may
+pub through-sealed-requires-clause-may : goal.through-sealed-requires-clause-may
+through-sealed-requires-clause-may g c κs within = let n = c.requires.named in may_as _ _ _ _ _ _ _ _ (sym c.bytes.ensures.bytes) n.0 n.1 c.requires.may
