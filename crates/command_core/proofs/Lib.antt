@@ -4,3 +4,6 @@ pub mod Openings
 pub mod Telling
 pub mod Traces
 pub mod Unpipings
+pub mod Puts
+pub mod Files
+pub mod Turns

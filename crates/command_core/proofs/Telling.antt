@@ -1,6 +1,6 @@
 -- One more line: what was printed for the files so far, and what is printed with the next one.
 use Rattle.std.proofs.Common.{◌≡◌, ◌≢◌, ℕ, ◌≤◌, Bool, true, false, ◌||◌, if◌then◌else◌, inl, inr, ⊎_elim, refl, sym, ap}
-use Rattle.std.proofs.Common.{subst, ◌∙◌, List, [], ◌∷◌, ◌++◌, map, append-nil, append_assoc, Option, Some, None, flat_map, Bor}
+use Rattle.std.proofs.Common.{subst, ◌∙◌, List, [], ◌∷◌, ◌++◌, map, append-nil, append_assoc, Option, Some, None, Bor}
 use Rattle.std.proofs.Common.{take, length, get_or, ◌+◌, ◌<◌, add-one, arith, lit≤}
 use Rattle.std.proofs.Math.Seq.{take-suc}
 use Rattle.std.proofs.KnownBytes.{Appends-nil, Appends-trans}
@@ -14,12 +14,7 @@ use Rattle.output_core.proofs.PartLemmas.{lacks_within}
 use Rattle.journal_core.specs.Text.{ended_lines}
 use Rattle.journal_core.proofs.Texts.{ended_lines-append}
 use Rattle.command_core.specs.Lines.{FileLine, line_text, lines_text, is_failed, status_of_lines}
-use Rattle.command_core.specs.Trace.{Event, Does}
-use Rattle.command_core.proofs.Traces.{nothing, weaken, chain}
-use Rattle.command_core.specs.Work.{AreDone, AreTold, AreWorked, Work}
-use Rattle.command_core.specs.declared.line.FileOutcome.{FileOutcome}
-use Rattle.std.proofs.lemmas.Grind.{flat_map-append}
-use Rattle.std.proofs.lemmas.List.Elements.{All-push}
+use Rattle.command_core.specs.Work.{AreTold}
 
 -- the bytes of one line
 abbrev pub line_bytes : FileLine → List ℕ
@@ -154,69 +149,6 @@ nothing_told taken failures = record {
   short = λ two. cc;
   stopped = inl refl;
 }
-
--- ---- what happened
-
-pub nothing_done : (does : List ℕ → FileOutcome → List Event → Type 0) (told : Option (List Event))
-    → Does (AreDone does []) told told
-nothing_done does told = weaken (λ events none. record {
-  works = [];
-  lined = refl;
-  each = λ k d below. absurd (omega (arith, below));
-  joined = none;
-}) told told (nothing told)
-
--- one more file
-pub done_more : (does : List ℕ → FileOutcome → List Event → Type 0) (lines : List FileLine) (line : FileLine)
-    (told told' told'' : Option (List Event))
-    → Does (AreDone does lines) told told' → Does (does line.name line.outcome) told' told''
-    → Does (AreDone does (lines ++ line ∷ [])) told told''
-done_more does lines line told told' told'' done next = chain (AreDone does (lines ++ line ∷ [])) (λ events more d is.
-    let work : Work = record { line = line; events = more } in record {
-      works = d.works ++ work ∷ [];
-      lined = map-append (λ (w : Work). w.line) d.works (work ∷ []) ∙ ap (λ l. l ++ line ∷ []) d.lined;
-      each = All-push (λ (w : Work). does w.line.name w.line.outcome w.events) d.works work d.each is;
-      joined = ap (λ l. l ++ more) d.joined ∙ ap (λ l. flat_map (λ (w : Work). w.events) d.works ++ l)
-          (sym (append-nil more))
-          ∙ sym (flat_map-append (λ (w : Work). w.events) d.works (work ∷ []));
-    }) told told' told'' done next
-
--- no file was processed
-pub nothing_worked : (fits : List ℕ → FileOutcome → Type 0) (does : List ℕ → FileOutcome → List Event → Type 0)
-    (taken : Option (List ℕ)) (failures : Option ℕ) (told : Option (List Event))
-    → AreWorked fits does [] 0 taken taken failures failures told told
-nothing_worked fits does taken failures told = record {
-  lines = [];
-  named = refl;
-  fitting = λ k d below. absurd (omega (arith, below));
-  told = nothing_told taken failures;
-  done = nothing_done does told;
-}
-
--- one more file was processed
-pub worked_more : (fits : List ℕ → FileOutcome → Type 0) (does : List ℕ → FileOutcome → List Event → Type 0)
-    (names names' : List (List ℕ)) (line : FileLine) (status status' : ℕ)
-    (old mid new : Option (List ℕ)) (failures failures' failures'' : Option ℕ) (told told' told'' : Option (List Event))
-    → (w : AreWorked fits does names status old mid failures failures' told told') → fits line.name line.outcome
-    → Does (does line.name line.outcome) told' told''
-    → AreTold status' (w.lines ++ line ∷ []) old new failures failures'' → names ++ line.name ∷ [] ≡ names'
-    → AreWorked fits does names' status' old new failures failures'' told told''
-worked_more fits does _ _ line _ _ _ _ _ _ _ _ told told' told'' w fit next lines longer = record {
-  lines = w.lines ++ line ∷ [];
-  done = done_more does w.lines line told told' told'' w.done next;
-  named = map-append (λ (l : FileLine). l.name) w.lines (line ∷ []) ∙ ap (λ l. l ++ line.name ∷ []) w.named ∙ longer;
-  fitting = All-push (λ (l : FileLine). fits l.name l.outcome) w.lines line w.fitting fit;
-  told = lines;
-}
-
--- of equal names
-pub same-names : (fits : List ℕ → FileOutcome → Type 0) (does : List ℕ → FileOutcome → List Event → Type 0)
-    (names names' : List (List ℕ)) (status : ℕ) (old new : Option (List ℕ)) (failures failures' : Option ℕ)
-    (told told' : Option (List Event))
-    → names ≡ names' → AreWorked fits does names status old new failures failures' told told'
-    → AreWorked fits does names' status old new failures failures' told told'
-same-names fits does names names' status old new failures failures' told told' same w =
-    subst (λ l. AreWorked fits does l status old new failures failures' told told') same w
 
 -- one more name
 pub names-step : (files : List (Bor (List ℕ))) (i : ℕ) (d : Bor (List ℕ)) → i < length files

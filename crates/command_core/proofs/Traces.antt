@@ -5,7 +5,7 @@ use Rattle.std.proofs.Math.Seq.{drop-append_seam, take-append_seam}
 use Rattle.io_core.specs.Streams.{Appends, counted}
 use Rattle.command_core.specs.declared.line.FileOutcome.{FileOutcome}
 use Rattle.command_core.specs.Trace.{Event, Finished, Discarded, Does, Nothing, Finishes, Discards, tape}
-use Rattle.command_core.specs.Trace.{Closed, Closes, Done, Ends, IsCounted, Opens, has_failed}
+use Rattle.command_core.specs.Trace.{Closed, Closes, IsCounted, Opens, has_failed}
 use Rattle.command_core.specs.Work.{IsClosedBy, reading_failed}
 
 pub nothing : (told : Option (List Event)) → Does Nothing told told
@@ -48,31 +48,6 @@ pub counted_as : (told : Option (List Event)) (failures one two : Option ℕ) �
 counted_as None failures one two same is = tt
 counted_as (Some events) failures one two same is = is ∙ same
 
--- a call after others
-pub counted_more : (told : Option (List Event)) (failed more : Bool) (first next last : Option ℕ)
-    → IsCounted told next (counted failed first) → failed ≡ false → last ≡ counted more next → IsCounted told last (counted more first)
-counted_more None failed more first next last was none is = tt
-counted_more (Some events) failed more first next last was none is =
-    is ∙ ap (counted more) (was ∙ ap (λ b. counted b first) none)
-
--- over the calls of an opening: the file was read again, the output was created and declared, and it was closed
-pub counted_through : (p q r : List Event → Type 0) (one two three four five : Option (List Event)) (failures count : Option ℕ)
-    → Does p one two → Does q two three → four ≡ three → Does r four five → IsCounted one failures count → IsCounted five failures count
-counted_through p q r one two three four five failures count again made same closed is =
-    counted_on r four five failures count closed (subst (λ t. IsCounted t failures count) (sym same)
-    (counted_on q two three failures count made (counted_on p one two failures count again is)))
-
--- of a new output, which was only declared what it is to hold
-pub counted_new : (failed : Bool) (told told' : Option (List Event)) (new declared : Option ℕ) → told' ≡ told
-    → IsCounted told new (Some 0) → IsCounted told declared new → IsCounted told' (counted failed declared) (counted failed (Some 0))
-counted_new failed told told' new declared same none kept = subst (λ t. IsCounted t (counted failed declared) (counted failed (Some 0)))
-    (sym same) (both told none kept)
-  where
-    both : (told : Option (List Event)) → IsCounted told new (Some 0) → IsCounted told declared new
-        → IsCounted told (counted failed declared) (counted failed (Some 0))
-    both None none kept = tt
-    both (Some events) none kept = ap (counted failed) (kept ∙ none)
-
 -- whether a call failed, by a count that was 0
 pub has_failed_of : (failed : Bool) (n : ℕ) → counted failed (Some 0) ≡ Some n → has_failed n ≡ failed
 has_failed_of true n is = let one : n ≡ 1 = cc in ap has_failed one
@@ -103,13 +78,6 @@ closed_file does name left outcome first last one None (Some w) (Some c) works c
 closed_file does name left outcome first last None (Some r) (Some w) (Some c) works count none opens closes = absurd opens
 closed_file does name left outcome first last (Some o) (Some r) (Some w) (Some c) works count none opens closes =
     closed_step does name outcome first last o w c none count (works (Some o) opens) closes
-
--- what happened, with another count
-pub ends_as : (kind : Option ℕ → List Event → Type 0) (failures count : Option ℕ) (one two : Option (List Event))
-    → IsCounted one failures count → Does (kind failures) one two → Does (kind count) one two
-ends_as kind failures count one None is did = tt
-ends_as kind failures count None (Some after) is did = absurd did
-ends_as kind failures count (Some before) (Some after) is did = subst (λ n. Does (kind n) (Some before) (Some after)) is did
 
 -- ---- tapes
 
@@ -154,20 +122,6 @@ pub discarded_as : (name bytes more : List ℕ) (taken taken' : Option (List ℕ
 discarded_as name bytes more taken taken' events is grew (other, all, tells, d) =
     let same = tape_as name other bytes more all taken taken' is grew tells in
     d ∙ ap (λ n. Discarded n all ∷ []) same.0 ∙ ap (λ b. Discarded name b ∷ []) same.1
-
--- that of a plaintext came to its end under its own name, and it is reported whether a write failed
-pub ended_under : (end : List ℕ → List ℕ → Event) (output other bytes : List ℕ) (failed : Bool) (n : ℕ) (events : List Event)
-    → other ≡ output → counted failed (Some 0) ≡ Some n → events ≡ end other bytes ∷ Done other (has_failed n) ∷ []
-    → events ≡ end output bytes ∷ Done output failed ∷ []
-ended_under end output other bytes failed n events same many said =
-    said ∙ ap (λ f. end other bytes ∷ Done other f ∷ []) (has_failed_of failed n many) ∙ ap (λ o. end o bytes ∷ Done o failed ∷ []) same
-
-pub ended_as : (end : List ℕ → List ℕ → Event) (name bytes more : List ℕ) (taken taken' : Option (List ℕ)) (failed : Bool)
-    (events : List Event) → taken ≡ Some (tape name bytes) → Appends taken taken' more
-    → Ends end taken' (counted failed (Some 0)) events → events ≡ end name (bytes ++ more) ∷ Done name failed ∷ []
-ended_as end name bytes more taken taken' failed events is grew (other, all, n, tells, many, said) =
-    let same = tape_as name other bytes more all taken taken' is grew tells in
-    ended_under end name other all failed n events same.0 many said ∙ ap (λ b. end name b ∷ Done name failed ∷ []) same.1
 
 pub known : (P : List ℕ → Type 0) (left : Option (List ℕ)) (bytes : List ℕ) → left ≡ Some bytes → IfSome left P
     → P bytes

@@ -10,3 +10,5 @@ pub mod Trace
 pub mod Unpiping
 pub mod Work
 pub mod Turns
+pub mod Putting
+pub mod Files

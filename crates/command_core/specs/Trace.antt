@@ -2,14 +2,13 @@
 use Rattle.std.specs.Prelude.{⊤, ◌≡◌, ℕ, ◌==◌, Bool, false, true, not, List, [], ◌∷◌, ◌++◌, length, Option, None, Some, IfSome, Ok}
 use Rattle.container_core.specs.Opening.{opening}
 use Rattle.opening_core.specs.Engine.{HasHeader}
-use Rattle.command_core.specs.declared.folder.FolderFault.{FolderFault}
+use Rattle.folder_core.specs.declared.fault.FolderFault.{FolderFault}
 
 -- A file was opened for reading, and its reader has these bytes; or it could not be opened. An open file was set back to
 -- its first byte, or `true`: that failed. It was closed; `true`: a call of its reader had failed.
 --
 -- An output was created; or it could not be, with this fault. It was finished, and these are all its bytes; or it was
--- given up with these bytes, and its removal was tried. The writer of a plaintext is done; `true`: a write had failed, or
--- the output's end had been refused.
+-- given up with these bytes, and its removal was tried.
 pub data Event : Type 0 where
   Reading : List ℕ → List ℕ → Event
   Unread : List ℕ → Event
@@ -19,7 +18,6 @@ pub data Event : Type 0 where
   Refused : List ℕ → FolderFault → Event
   Finished : List ℕ → List ℕ → Event
   Discarded : List ℕ → List ℕ → Event
-  Done : List ℕ → Bool → Event
 
 -- Events of this kind came after those so far, if it is still known what came. A folder may forget, and then it knows
 -- no more.
@@ -80,12 +78,6 @@ has_failed n = not (n == 0)
 abbrev pub Closes : List ℕ → Option ℕ → List Event → Type 0
 Closes name failures events = (n : ℕ) × (failures ≡ Some n) × (events ≡ Closed name (has_failed n) ∷ [])
 
--- The output of a plaintext came to this end, `Finished` or `Discarded`, under the name and with the bytes that its writer
--- reports, after so many writes to it had failed, or its end.
-abbrev pub Ends : (List ℕ → List ℕ → Event) → Option (List ℕ) → Option ℕ → List Event → Type 0
-Ends end taken failures events = (name : List ℕ) × (bytes : List ℕ) × (n : ℕ) × (taken ≡ Some (tape name bytes))
-    × (failures ≡ Some n) × (events ≡ end name bytes ∷ Done name (has_failed n) ∷ [])
-
 -- A folder that knows what happened knows how many calls of a reader or a writer failed.
 abbrev pub IsCounted : Option (List Event) → Option ℕ → Option ℕ → Type 0
 IsCounted told failures count = IfSome told (λ _. failures ≡ count)
@@ -93,11 +85,6 @@ IsCounted told failures count = IfSome told (λ _. failures ≡ count)
 -- A folder that knows what happened, and bytes that a reader has to give: where it tells their number, that is it.
 abbrev pub IsLength : Option (List Event) → Option (List ℕ) → Option ℕ → Type 0
 IsLength told left bytes = IfSome told (λ _. IfSome left (λ input. IfSome bytes (λ n. n ≡ length input)))
-
--- a file of this name was read, and its bytes open to this plaintext
-abbrev pub IsOpenedBy : List ℕ → List ℕ → List ℕ → List Event → Type 0
-IsOpenedBy key name plain events = (bytes : List ℕ) × (most : ℕ) × (before : List Event) × (after : List Event)
-    × (events ≡ before ++ Reading name bytes ∷ after) × (opening key most bytes ≡ Ok plain)
 
 -- a file of this name was read, opens under the key, and has this header; then it was read again, and gave these bytes
 abbrev pub IsReadAgain : List ℕ → List ℕ → List ℕ → Option (List ℕ) → List Event → Type 0

@@ -4,11 +4,12 @@
 //! still processed, and the exit status is 2.
 ghost use Rattle.std.specs.Prelude.{◌≡◌, ℕ, List, [], ◌∷◌, ◌++◌, Option, Ok, Err, if◌then◌else◌};
 ghost use Rattle.command_core.specs.Lines.{FileLine, is_failed};
+ghost use Rattle.command_core.specs.Putting.{fault_of_stop};
 ghost use Rattle.command_core.specs.Work.{AreTold};
 
 use crate::line::{FileFault, FileOutcome, Line};
 use crate::report::Report;
-use container_core::{MAX_OPENED, MAX_PLAIN, OpenFault};
+use container_core::{MAX_OPENED, MAX_PLAIN};
 use ledger_core::Failed;
 use opening_core::Stopped;
 use std::alloc::Global;
@@ -58,9 +59,7 @@ pub struct Outs<L: Report + Drop, E: Report + Drop, J: Report + Drop> {
 
 // What a second reading that stopped is reported as.
 pub(crate) fn fault_again(stopped: Stopped) -> FileFault
-    ensures changed { stopped ≡ Stopped.Changed → result ≡ FileFault.Changed }
-    ensures broken { (fault : OpenFault) → stopped ≡ Stopped.Broken fault → result ≡ FileFault.Unopened fault }
-    ensures refused { (fault : OpenFault) → stopped ≡ Stopped.Refused fault → result ≡ FileFault.Unopened fault }
+    ensures { result ≡ fault_of_stop stopped }
 {
     match stopped {
         Stopped::Changed => FileFault::Changed,

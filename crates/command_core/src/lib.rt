@@ -1,7 +1,7 @@
 //! What the commands share, and those that open and verify.
 //!
-//! A command works over a `Folder`, prints one line for each file, and ends with an exit status. `open_all`,
-//! `verify_all` and `unpipe_all` are here; the commands that seal use this crate. Key files are read here too.
+//! A command prints one line for each file, and ends with an exit status. `open_all` and `verify_all` work over a folder
+//! of `folder_core`, `unpipe_all` and the commands that seal over a `Folder` of this crate. Key files are read here too.
 #![tactic(auto)]
 
 pub mod commands;
@@ -12,6 +12,7 @@ pub mod key_file;
 pub(crate) mod label;
 pub mod line;
 pub mod opening;
+pub(crate) mod putting;
 pub(crate) mod reading;
 pub mod report;
 pub mod sealing_folder;
@@ -21,7 +22,7 @@ pub mod verifying;
 
 pub use crate::commands::{MAX_BYTES, MAX_OPENED_BYTES, OpenOptions, Outs, tell};
 pub use crate::facts::{Facts, ShownLabel};
-pub use crate::folder::{Folder, FolderFault, OpeningFolder};
+pub use crate::folder::Folder;
 pub use crate::key_file::{KeyFault, read_key};
 pub use crate::line::{FileFault, FileOutcome, Line};
 pub use crate::opening::open_all;
@@ -31,4 +32,3 @@ pub use crate::sealing_stream::SealingStream;
 pub use crate::unpiping::{OpeningStream, UnpipeOptions, unpipe_all};
 pub use crate::verifying::verify_all;
 pub use claim_core::MAX_WORKERS;
-pub use opening_core::Plaintext;

@@ -1,27 +1,30 @@
 //! Opening: each file in turn, with its line on standard output.
 //!
-//! The first file that is worth several workers starts them, once, and they last to the end of the command; where there
-//! is no room for that, this thread goes on alone. Until then a file whose length isn't known, of which nothing may come
-//! for long, starts its own for each reading.
-ghost use Rattle.std.specs.Prelude.{◌≡◌, ℕ, ◌+◌, ◌<◌, ◌≤◌, List, [], ◌∷◌, ◌++◌, length, map, take, Option, Some, Ok, Err};
-ghost use Rattle.std.specs.Prelude.{IfOk, IfErr, IfSome, OnOk, option_map, MatchOption};
+//! The first file that is worth several workers starts them, once, and they last
+//! to the end of the command; where there is no room for that, this thread goes on alone. Until then a file whose length
+//! isn't known, of which nothing may come for long, starts its own for each reading.
+ghost use Rattle.std.specs.Prelude.{◌≡◌, ℕ, ◌+◌, ◌<◌, ◌≤◌, List, [], ◌∷◌, length, map, take, Option, Some, Err};
+ghost use Rattle.std.specs.Prelude.{IfErr, IfOk, IfSome, MatchOption, OnOk, option_map};
 ghost use Rattle.io_core.specs.Streams.{counted};
 ghost use Rattle.opening_core.specs.Workers.{AreWorkers};
-ghost use Rattle.command_core.specs.Trace.{Does, Event, IsCounted, Opens};
-ghost use Rattle.command_core.specs.Turns.{AreOpened, IsFileAt, Printed, printed};
-ghost use Rattle.command_core.specs.Work.{AreInRange, AreWorked, IsOfOpening, IsOpenable};
-ghost use Rattle.command_core.specs.Work.{Opening, OpeningRead, asked_label, asked_output, output_for};
+ghost use Rattle.folder_core.specs.Record.{Read, RunRecord};
+ghost use Rattle.folder_core.specs.Changes.{IsIdle, TellsBytes};
+ghost use Rattle.folder_core.specs.Growth.{Grows};
+ghost use Rattle.command_core.specs.Files.{AddsOpened, AddsOpenedRead, HaveAdded, HaveOpened, IsOpenFile};
+ghost use Rattle.command_core.specs.Turns.{IsFileAt, Printed, printed};
+ghost use Rattle.command_core.specs.Work.{IsOfOpening, IsOpenable, asked_label, asked_output, output_for};
 ghost use Rattle.command_core.specs.Work.{reading_failed};
 
-use crate::commands::{MAX_OPENED_BYTES, OpenOptions, Outs, SUFFIX, fault_again, tell};
+use crate::commands::{MAX_OPENED_BYTES, OpenOptions, Outs, SUFFIX, tell};
 use crate::context::FilesContext;
-use crate::folder::{FolderFault, OpeningFolder, write_again_or_give_up, write_or_give_up};
 use crate::line::{FileFault, FileOutcome};
+use crate::putting::{fault_of_output, put_again, put_plain};
 use crate::reading::{check_labelled, read_labelled, room_to_start, workers_for, workers_from};
 use crate::report::Report;
 use claim_core::{Free, MAX_WORKERS};
 use container_core::{Key, OpenFault};
-use ledger_core::Failed;
+use folder_core::OpeningFolder;
+use io_core::Failed;
 use opening_core::{Workers, boxes_beside};
 use std::alloc::Global;
 use std::thread::Threads;
@@ -46,17 +49,6 @@ fn output_name<'n>(name: &'n str, to: Option<&'n str>) -> Option<&'n str>
     }
 }
 
-// What an output that was refused is reported as.
-fn refusal(fault: FolderFault) -> FileFault
-    ensures exists { fault ≡ FolderFault.Exists → result ≡ FileFault.OutputExists }
-    ensures failed { fault ≡ FolderFault.Failed → result ≡ FileFault.CannotCreate }
-{
-    match fault {
-        FolderFault::Exists => FileFault::OutputExists,
-        FolderFault::Failed => FileFault::CannotCreate,
-    }
-}
-
 // Opens a file that can be read again: a first reading checks its whole container. Then the output is created, and a
 // second reading writes the plaintext.
 fn open_again<'b, 'a, T: Threads + Clock + Sync, F: OpeningFolder>(
@@ -69,16 +61,14 @@ fn open_again<'b, 'a, T: Threads + Clock + Sync, F: OpeningFolder>(
     workers: Workers<'b, 'a>,
 ) -> FileOutcome
     requires workers { AreWorkers workers }
-    requires name { IsOpenable (asked_output context.now.options.now) name.now }
-    requires opened { (before : Option (List Event))
-        × Does (Opens name.now (F.Reader.left reader.old)) before (F.told folder.old) }
-    ensures outcome { IsOfOpening (asked_output context.now.options.now) name.now result }
-    ensures events { (before : Option (List Event))
-        → Does (Opens name.now (F.Reader.left reader.old)) before (F.told folder.old)
-        → Does (OpeningRead context.now.key.now context.now.options.now.max_bytes (asked_label context.now.options.now)
-        output.now name.now result) before (F.told folder.new) }
-    ensures count { IsCounted (F.told folder.new) (F.Reader.failures reader.new)
-        (counted (reading_failed result) (F.Reader.failures reader.old)) }
+    requires open { IsOpenFile name.now (F.Reader.left reader.old) (F.Reader.failures reader.old) (F.rest folder.old) }
+    ensures fits { (to : Option (List ℕ)) → IsOpenable to name.now → IsOfOpening to name.now result }
+    ensures adds { (before : Option RunRecord)
+        → TellsBytes (Read name.now) (F.Reader.left reader.old) before (F.rest folder.old)
+        → Grows (AddsOpenedRead context.now.key.now context.now.options.now.max_bytes
+        (asked_label context.now.options.now) output.now name.now result) before (F.rest folder.new) }
+    ensures read { IfSome (F.rest folder.new) (λ _. F.Reader.failures reader.new
+        ≡ counted (reading_failed result) (F.Reader.failures reader.old)) }
 {
     let FilesContext {
         alloc,
@@ -94,16 +84,9 @@ fn open_again<'b, 'a, T: Threads + Clock + Sync, F: OpeningFolder>(
         Ok(()) => {}
         Err(Failed) => return FileOutcome::Failed(FileFault::Unopened(OpenFault::Read)),
     }
-    let mut writer = match folder.create(output) {
-        Ok(writer) => writer,
-        Err(fault) => return FileOutcome::Failed(refusal(fault)),
-    };
-    folder.allow_checked(&mut writer, key, &header, name, reader);
-    match write_again_or_give_up(
-        rt, alloc, key, &header, reader, folder, writer, most, workers,
-    ) {
+    match put_again(rt, context, folder, output, &header, reader, workers) {
         Ok(n) => FileOutcome::Opened(n),
-        Err(stopped) => FileOutcome::Failed(fault_again(stopped)),
+        Err(fault) => FileOutcome::Failed(fault_of_output(fault)),
     }
 }
 
@@ -113,21 +96,19 @@ fn open_once<'b, 'a, T: Threads + Clock + Sync, F: OpeningFolder>(
     context: &FilesContext<'_, 'a>,
     folder: &mut F,
     reader: &mut F::Reader,
-    name: &str,
     output: &str,
     workers: Workers<'b, 'a>,
 ) -> FileOutcome
     requires workers { AreWorkers workers }
-    requires name { IsOpenable (asked_output context.now.options.now) name.now }
-    requires opened { (before : Option (List Event))
-        × Does (Opens name.now (F.Reader.left reader.old)) before (F.told folder.old) }
-    ensures outcome { IsOfOpening (asked_output context.now.options.now) name.now result }
-    ensures events { (before : Option (List Event))
-        → Does (Opens name.now (F.Reader.left reader.old)) before (F.told folder.old)
-        → Does (OpeningRead context.now.key.now context.now.options.now.max_bytes (asked_label context.now.options.now)
-        output.now name.now result) before (F.told folder.new) }
-    ensures count { IsCounted (F.told folder.new) (F.Reader.failures reader.new)
-        (counted (reading_failed result) (F.Reader.failures reader.old)) }
+    requires open { (name : List ℕ)
+        × IsOpenFile name (F.Reader.left reader.old) (F.Reader.failures reader.old) (F.rest folder.old) }
+    ensures fits { (to : Option (List ℕ)) (name : List ℕ) → IsOpenable to name → IsOfOpening to name result }
+    ensures adds { (name : List ℕ) (before : Option RunRecord)
+        → TellsBytes (Read name) (F.Reader.left reader.old) before (F.rest folder.old)
+        → Grows (AddsOpenedRead context.now.key.now context.now.options.now.max_bytes
+        (asked_label context.now.options.now) output.now name result) before (F.rest folder.new) }
+    ensures read { IfSome (F.rest folder.new) (λ _. F.Reader.failures reader.new
+        ≡ counted (reading_failed result) (F.Reader.failures reader.old)) }
 {
     let FilesContext {
         alloc,
@@ -139,14 +120,9 @@ fn open_once<'b, 'a, T: Threads + Clock + Sync, F: OpeningFolder>(
         Ok(plain) => plain,
         Err(fault) => return FileOutcome::Failed(fault),
     };
-    let mut writer = match folder.create(output) {
-        Ok(writer) => writer,
-        Err(fault) => return FileOutcome::Failed(refusal(fault)),
-    };
-    folder.allow_plain(&mut writer, key, name, &plain);
-    match write_or_give_up(folder, writer, &plain) {
+    match put_plain(folder, output, key, &plain) {
         Ok(()) => FileOutcome::Opened(plain.len()),
-        Err(Failed) => FileOutcome::Failed(FileFault::Unopened(OpenFault::Write)),
+        Err(fault) => FileOutcome::Failed(fault_of_output(fault)),
     }
 }
 
@@ -161,21 +137,19 @@ fn open_read<'b, 'a, T: Threads + Clock + Sync, F: OpeningFolder>(
     workers: Workers<'b, 'a>,
 ) -> FileOutcome
     requires workers { AreWorkers workers }
-    requires name { IsOpenable (asked_output context.now.options.now) name.now }
-    requires opened { (before : Option (List Event))
-        × Does (Opens name.now (F.Reader.left reader.old)) before (F.told folder.old) }
-    ensures outcome { IsOfOpening (asked_output context.now.options.now) name.now result }
-    ensures events { (before : Option (List Event))
-        → Does (Opens name.now (F.Reader.left reader.old)) before (F.told folder.old)
-        → Does (OpeningRead context.now.key.now context.now.options.now.max_bytes (asked_label context.now.options.now)
-        output.now name.now result) before (F.told folder.new) }
-    ensures count { IsCounted (F.told folder.new) (F.Reader.failures reader.new)
-        (counted (reading_failed result) (F.Reader.failures reader.old)) }
+    requires open { IsOpenFile name.now (F.Reader.left reader.old) (F.Reader.failures reader.old) (F.rest folder.old) }
+    ensures fits { (to : Option (List ℕ)) → IsOpenable to name.now → IsOfOpening to name.now result }
+    ensures adds { (before : Option RunRecord)
+        → TellsBytes (Read name.now) (F.Reader.left reader.old) before (F.rest folder.old)
+        → Grows (AddsOpenedRead context.now.key.now context.now.options.now.max_bytes
+        (asked_label context.now.options.now) output.now name.now result) before (F.rest folder.new) }
+    ensures read { IfSome (F.rest folder.new) (λ _. F.Reader.failures reader.new
+        ≡ counted (reading_failed result) (F.Reader.failures reader.old)) }
 {
     if folder.can_repeat(reader) {
         open_again(rt, context, folder, reader, name, output, workers)
     } else {
-        open_once(rt, context, folder, reader, name, output, workers)
+        open_once(rt, context, folder, reader, output, workers)
     }
 }
 
@@ -185,15 +159,15 @@ fn begin<F: OpeningFolder>(
     name: &str,
     options: &OpenOptions,
 ) -> Result<F::Reader, FileOutcome>
-    requires { AreInRange options.now }
+    requires idle { IsIdle (F.rest folder.old) }
     ensures opens { OnOk result (IsOpenable (asked_output options.now) name.now) }
     ensures opened { IfOk result (λ reader.
-        Does (Opens name.now (F.Reader.left reader)) (F.told folder.old) (F.told folder.new)) }
-    ensures count { IfOk result (λ reader. IsCounted (F.told folder.new) (F.Reader.failures reader) (Some 0)) }
+        TellsBytes (Read name.now) (F.Reader.left reader) (F.rest folder.old) (F.rest folder.new)) }
+    ensures count { IfOk result (λ reader. IfSome (F.rest folder.new) (λ _. F.Reader.failures reader ≡ Some 0)) }
     ensures fits { IfErr result (IsOfOpening (asked_output options.now) name.now) }
-    ensures does { IfErr result (λ outcome. (key : List ℕ)
-        → Does (Opening key options.now.max_bytes (asked_label options.now)
-        (output_for (asked_output options.now) name.now) name.now outcome) (F.told folder.old) (F.told folder.new)) }
+    ensures adds { IfErr result (λ outcome. (key : List ℕ)
+        → Grows (AddsOpened key options.now.max_bytes (asked_label options.now)
+        (output_for (asked_output options.now) name.now) name.now outcome) (F.rest folder.old) (F.rest folder.new)) }
 {
     if output_name(name, options.to).is_none() {
         return Err(FileOutcome::Failed(FileFault::NoSuffix));
@@ -216,14 +190,13 @@ fn open_opened<'b, 'a, T: Threads + Clock + Sync, F: OpeningFolder>(
 ) -> FileOutcome
     requires workers { AreWorkers workers }
     requires opens { IsOpenable (asked_output context.now.options.now) name.now }
-    requires opened { (before : Option (List Event))
-        × Does (Opens name.now (F.Reader.left reader)) before (F.told folder.old) }
-    requires count { IsCounted (F.told folder.old) (F.Reader.failures reader) (Some 0) }
+    requires open { IsOpenFile name.now (F.Reader.left reader) (F.Reader.failures reader) (F.rest folder.old) }
     ensures fits { IsOfOpening (asked_output context.now.options.now) name.now result }
-    ensures does { (before : Option (List Event))
-        → Does (Opens name.now (F.Reader.left reader)) before (F.told folder.old)
-        → Does (Opening context.now.key.now context.now.options.now.max_bytes (asked_label context.now.options.now)
-        (output_for (asked_output context.now.options.now) name.now) name.now result) before (F.told folder.new) }
+    ensures adds { (before : Option RunRecord)
+        → TellsBytes (Read name.now) (F.Reader.left reader) before (F.rest folder.old)
+        → Grows (AddsOpened context.now.key.now context.now.options.now.max_bytes
+        (asked_label context.now.options.now) (output_for (asked_output context.now.options.now) name.now) name.now
+        result) before (F.rest folder.new) }
 {
     let Some(output) = output_name(name, context.options.to) else {
         unreachable!();
@@ -243,10 +216,11 @@ fn open_file<'b, 'a, T: Threads + Clock + Sync, F: OpeningFolder>(
     workers: Workers<'b, 'a>,
 ) -> FileOutcome
     requires workers { AreWorkers workers }
+    requires idle { IsIdle (F.rest folder.old) }
     ensures fits { IsOfOpening (asked_output context.now.options.now) name.now result }
-    ensures does { Does (Opening context.now.key.now context.now.options.now.max_bytes
+    ensures adds { Grows (AddsOpened context.now.key.now context.now.options.now.max_bytes
         (asked_label context.now.options.now) (output_for (asked_output context.now.options.now) name.now) name.now
-        result) (F.told folder.old) (F.told folder.new) }
+        result) (F.rest folder.old) (F.rest folder.new) }
 {
     match begin(folder, name, context.options) {
         Ok(reader) => {
@@ -269,11 +243,12 @@ fn open_rest<'b, 'a, T: Threads + Clock + Sync, F: OpeningFolder, L: Report>(
 ) -> u8
     requires workers { AreWorkers workers }
     requires next { next ≤ length context.now.options.now.files.now }
-    ensures { (old : Printed) (told : Option (List Event))
-        → AreOpened context.now.key.now context.now.options.now next status old
-        (printed (L.taken lines.old) (L.failures lines.old)) told (F.told folder.old)
-        → AreOpened context.now.key.now context.now.options.now (length context.now.options.now.files.now) result old
-        (printed (L.taken lines.new) (L.failures lines.new)) told (F.told folder.new) }
+    requires idle { IsIdle (F.rest folder.old) }
+    ensures { (old : Printed) (before : Option RunRecord)
+        → HaveOpened context.now.key.now context.now.options.now next status old
+        (printed (L.taken lines.old) (L.failures lines.old)) before (F.rest folder.old)
+        → HaveOpened context.now.key.now context.now.options.now (length context.now.options.now.files.now) result old
+        (printed (L.taken lines.new) (L.failures lines.new)) before (F.rest folder.new) }
 {
     let files = context.options.files;
     let mut status = status;
@@ -301,15 +276,13 @@ fn open_from<'b, 'a, T: Threads + Clock + Sync, F: OpeningFolder, L: Report>(
     requires workers { AreWorkers workers }
     requires name { IsFileAt context.now.options.now number name.now }
     requires opens { IsOpenable (asked_output context.now.options.now) name.now }
-    requires opened { (before : Option (List Event))
-        × Does (Opens name.now (F.Reader.left reader)) before (F.told folder.old) }
-    requires count { IsCounted (F.told folder.old) (F.Reader.failures reader) (Some 0) }
-    ensures { (old : Printed) (told : Option (List Event)) (before : Option (List Event))
-        → AreOpened context.now.key.now context.now.options.now number status old
-        (printed (L.taken lines.old) (L.failures lines.old)) told before
-        → Does (Opens name.now (F.Reader.left reader)) before (F.told folder.old)
-        → AreOpened context.now.key.now context.now.options.now (length context.now.options.now.files.now) result old
-        (printed (L.taken lines.new) (L.failures lines.new)) told (F.told folder.new) }
+    requires open { IsOpenFile name.now (F.Reader.left reader) (F.Reader.failures reader) (F.rest folder.old) }
+    ensures { (old : Printed) (before : Option RunRecord) (start : Option RunRecord)
+        → HaveOpened context.now.key.now context.now.options.now number status old
+        (printed (L.taken lines.old) (L.failures lines.old)) before start
+        → TellsBytes (Read name.now) (F.Reader.left reader) start (F.rest folder.old)
+        → HaveOpened context.now.key.now context.now.options.now (length context.now.options.now.files.now) result old
+        (printed (L.taken lines.new) (L.failures lines.new)) before (F.rest folder.new) }
 {
     let most = workers_for(folder.length(&reader), workers.count());
     let outcome = open_opened(rt, context, folder, reader, name, workers.at_most(most));
@@ -332,15 +305,13 @@ fn open_beside<'a, T: Threads + Clock + Sync, F: OpeningFolder, L: Report>(
     requires some { (0 < count) × (count ≤ MAX_WORKERS) }
     requires name { IsFileAt context.now.options.now number name.now }
     requires opens { IsOpenable (asked_output context.now.options.now) name.now }
-    requires opened { (before : Option (List Event))
-        × Does (Opens name.now (F.Reader.left reader)) before (F.told folder.old) }
-    requires count { IsCounted (F.told folder.old) (F.Reader.failures reader) (Some 0) }
-    ensures { (old : Printed) (told : Option (List Event)) (before : Option (List Event))
-        → AreOpened context.now.key.now context.now.options.now number status old
-        (printed (L.taken lines.old) (L.failures lines.old)) told before
-        → Does (Opens name.now (F.Reader.left reader)) before (F.told folder.old)
-        → AreOpened context.now.key.now context.now.options.now (length context.now.options.now.files.now) result old
-        (printed (L.taken lines.new) (L.failures lines.new)) told (F.told folder.new) }
+    requires open { IsOpenFile name.now (F.Reader.left reader) (F.Reader.failures reader) (F.rest folder.old) }
+    ensures { (old : Printed) (before : Option RunRecord) (start : Option RunRecord)
+        → HaveOpened context.now.key.now context.now.options.now number status old
+        (printed (L.taken lines.old) (L.failures lines.old)) before start
+        → TellsBytes (Read name.now) (F.Reader.left reader) start (F.rest folder.old)
+        → HaveOpened context.now.key.now context.now.options.now (length context.now.options.now.files.now) result old
+        (printed (L.taken lines.new) (L.failures lines.new)) before (F.rest folder.new) }
 {
     let alloc = context.alloc;
     let Some(reserve) = room_to_start(alloc, count) else {
@@ -357,17 +328,16 @@ fn open_beside<'a, T: Threads + Clock + Sync, F: OpeningFolder, L: Report>(
         requires boxes { length boxes.now < MAX_WORKERS }
         requires name { IsFileAt context.now.options.now number name.now }
         requires opens { IsOpenable (asked_output context.now.options.now) name.now }
-        requires opened { (reader : F.Reader) × (before : Option (List Event)) × (kept ≡ Some reader)
-            × Does (Opens name.now (F.Reader.left reader)) before (F.told folder.now)
-            × IsCounted (F.told folder.now) (F.Reader.failures reader) (Some 0) }
-        ensures { (reader : F.Reader) (old : Printed) (told : Option (List Event))
-            (before : Option (List Event)) → kept.entry ≡ Some reader
-            → AreOpened context.entry.now.key.now context.entry.now.options.now number status old
-            (printed (L.taken lines.entry.now) (L.failures lines.entry.now)) told before
-            → Does (Opens name.entry.now (F.Reader.left reader)) before (F.told folder.entry.now)
-            → AreOpened context.entry.now.key.now context.entry.now.options.now
+        requires open { (reader : F.Reader) × (kept ≡ Some reader)
+            × IsOpenFile name.now (F.Reader.left reader) (F.Reader.failures reader) (F.rest folder.now) }
+        ensures { (reader : F.Reader) (old : Printed) (before : Option RunRecord) (start : Option RunRecord)
+            → kept.entry ≡ Some reader
+            → HaveOpened context.entry.now.key.now context.entry.now.options.now number status old
+            (printed (L.taken lines.entry.now) (L.failures lines.entry.now)) before start
+            → TellsBytes (Read name.entry.now) (F.Reader.left reader) start (F.rest folder.entry.now)
+            → HaveOpened context.entry.now.key.now context.entry.now.options.now
             (length context.entry.now.options.now.files.now) result old
-            (printed (L.taken lines.exit.now) (L.failures lines.exit.now)) told (F.told folder.exit.now) }
+            (printed (L.taken lines.exit.now) (L.failures lines.exit.now)) before (F.rest folder.exit.now) }
     {
         let Some(reader) = kept.take() else {
             unreachable!();
@@ -403,13 +373,16 @@ pub fn open_all<
     requires files { 0 < length options.now.files.now }
     requires workers { (0 < options.now.workers) × (options.now.workers ≤ MAX_WORKERS) }
     requires max_bytes { options.now.max_bytes ≤ MAX_OPENED_BYTES }
+    // No output is in hand: not before the command, and not after it.
+    requires idle { IsIdle (F.rest folder.old) }
+    ensures idle { IsIdle (F.rest folder.new) }
     ensures status { result ≤ 2 }
-    ensures files { AreWorked (IsOfOpening (option_map (λ to. to.now) options.now.to))
-        (λ name. Opening key.now options.now.max_bytes (option_map (λ b. b.now) options.now.label)
+    ensures files { HaveAdded (IsOfOpening (option_map (λ to. to.now) options.now.to))
+        (λ name. AddsOpened key.now options.now.max_bytes (option_map (λ b. b.now) options.now.label)
         (output_for (option_map (λ to. to.now) options.now.to) name) name)
         (map (λ name. name.now) options.now.files.now) result
-        (L.taken out.old.lines) (L.taken out.new.lines) (L.failures out.old.lines) (L.failures out.new.lines)
-        (F.told folder.old) (F.told folder.new) }
+        (printed (L.taken out.old.lines) (L.failures out.old.lines))
+        (printed (L.taken out.new.lines) (L.failures out.new.lines)) (F.rest folder.old) (F.rest folder.new) }
     ensures others { (out.new.faults ≡ out.old.faults) × (out.new.journal ≡ out.old.journal) }
 {
     let context = FilesContext {

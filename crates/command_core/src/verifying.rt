@@ -1,21 +1,23 @@
-//! Verifying: each file in turn, with its line on standard output. No file is created. Workers are started, and
-//! last, as in `opening`.
-ghost use Rattle.std.specs.Prelude.{◌≡◌, ℕ, ◌+◌, ◌<◌, ◌≤◌, List, [], ◌∷◌, ◌++◌, length, map, take, Option, Some, option_map};
-ghost use Rattle.std.specs.Prelude.{IfOk, IfErr};
+//! Verifying: each file in turn, with its line on standard output. No file is created. Workers are started, and last,
+//! as in `opening`.
+ghost use Rattle.std.specs.Prelude.{◌≡◌, ℕ, ◌+◌, ◌<◌, ◌≤◌, List, [], ◌∷◌, length, map, take, Option, Some, IfSome, option_map};
 ghost use Rattle.opening_core.specs.Workers.{AreWorkers};
-ghost use Rattle.command_core.specs.Trace.{Does, Event, IsCounted, Opens};
-ghost use Rattle.command_core.specs.Turns.{AreVerified, IsFileAt, Printed, printed};
-ghost use Rattle.command_core.specs.Work.{AreWorked, IsOfVerifying, Verifying, asked_label};
+ghost use Rattle.folder_core.specs.Record.{Read, RunRecord};
+ghost use Rattle.folder_core.specs.Changes.{IsIdle, TellsBytes};
+ghost use Rattle.folder_core.specs.Growth.{Grows};
+ghost use Rattle.command_core.specs.Files.{AddsVerified, HaveAdded, HaveVerified, IsOpenFile};
+ghost use Rattle.command_core.specs.Turns.{IsFileAt, Printed, printed};
+ghost use Rattle.command_core.specs.Work.{IsOfVerifying, asked_label};
 
 use crate::commands::{MAX_OPENED_BYTES, OpenOptions, Outs, tell};
 use crate::context::FilesContext;
 use crate::facts::Facts;
-use crate::folder::Folder;
 use crate::line::{FileFault, FileOutcome};
 use crate::reading::{check_labelled, room_to_start, workers_for, workers_from};
 use crate::report::Report;
 use claim_core::{Free, MAX_WORKERS};
 use container_core::Key;
+use folder_core::Folder;
 use opening_core::{Workers, boxes_beside};
 use std::alloc::Global;
 use std::thread::Threads;
@@ -32,14 +34,12 @@ fn verify_opened<'b, 'a, T: Threads + Clock + Sync, F: Folder>(
     workers: Workers<'b, 'a>,
 ) -> FileOutcome
     requires workers { AreWorkers workers }
-    requires opened { (before : Option (List Event))
-        × Does (Opens name.now (F.Reader.left reader)) before (F.told folder.old) }
-    requires count { IsCounted (F.told folder.old) (F.Reader.failures reader) (Some 0) }
+    requires open { IsOpenFile name.now (F.Reader.left reader) (F.Reader.failures reader) (F.rest folder.old) }
     ensures fits { IsOfVerifying context.now.options.now.show result }
-    ensures does { (before : Option (List Event))
-        → Does (Opens name.now (F.Reader.left reader)) before (F.told folder.old)
-        → Does (Verifying context.now.key.now context.now.options.now.max_bytes (asked_label context.now.options.now)
-        name.now result) before (F.told folder.new) }
+    ensures adds { (before : Option RunRecord)
+        → TellsBytes (Read name.now) (F.Reader.left reader) before (F.rest folder.old)
+        → Grows (AddsVerified context.now.key.now context.now.options.now.max_bytes
+        (asked_label context.now.options.now) name.now result) before (F.rest folder.new) }
 {
     let FilesContext {
         alloc,
@@ -69,9 +69,10 @@ fn verify_file<'b, 'a, T: Threads + Clock + Sync, F: Folder>(
     workers: Workers<'b, 'a>,
 ) -> FileOutcome
     requires workers { AreWorkers workers }
+    requires idle { IsIdle (F.rest folder.old) }
     ensures fits { IsOfVerifying context.now.options.now.show result }
-    ensures does { Does (Verifying context.now.key.now context.now.options.now.max_bytes
-        (asked_label context.now.options.now) name.now result) (F.told folder.old) (F.told folder.new) }
+    ensures adds { Grows (AddsVerified context.now.key.now context.now.options.now.max_bytes
+        (asked_label context.now.options.now) name.now result) (F.rest folder.old) (F.rest folder.new) }
 {
     match folder.open(name) {
         Ok(reader) => {
@@ -94,11 +95,12 @@ fn verify_rest<'b, 'a, T: Threads + Clock + Sync, F: Folder, L: Report>(
 ) -> u8
     requires workers { AreWorkers workers }
     requires next { next ≤ length context.now.options.now.files.now }
-    ensures { (old : Printed) (told : Option (List Event))
-        → AreVerified context.now.key.now context.now.options.now next status old
-        (printed (L.taken lines.old) (L.failures lines.old)) told (F.told folder.old)
-        → AreVerified context.now.key.now context.now.options.now (length context.now.options.now.files.now) result old
-        (printed (L.taken lines.new) (L.failures lines.new)) told (F.told folder.new) }
+    requires idle { IsIdle (F.rest folder.old) }
+    ensures { (old : Printed) (before : Option RunRecord)
+        → HaveVerified context.now.key.now context.now.options.now next status old
+        (printed (L.taken lines.old) (L.failures lines.old)) before (F.rest folder.old)
+        → HaveVerified context.now.key.now context.now.options.now (length context.now.options.now.files.now) result old
+        (printed (L.taken lines.new) (L.failures lines.new)) before (F.rest folder.new) }
 {
     let files = context.options.files;
     let mut status = status;
@@ -125,15 +127,13 @@ fn verify_from<'b, 'a, T: Threads + Clock + Sync, F: Folder, L: Report>(
 ) -> u8
     requires workers { AreWorkers workers }
     requires name { IsFileAt context.now.options.now number name.now }
-    requires opened { (before : Option (List Event))
-        × Does (Opens name.now (F.Reader.left reader)) before (F.told folder.old) }
-    requires count { IsCounted (F.told folder.old) (F.Reader.failures reader) (Some 0) }
-    ensures { (old : Printed) (told : Option (List Event)) (before : Option (List Event))
-        → AreVerified context.now.key.now context.now.options.now number status old
-        (printed (L.taken lines.old) (L.failures lines.old)) told before
-        → Does (Opens name.now (F.Reader.left reader)) before (F.told folder.old)
-        → AreVerified context.now.key.now context.now.options.now (length context.now.options.now.files.now) result old
-        (printed (L.taken lines.new) (L.failures lines.new)) told (F.told folder.new) }
+    requires open { IsOpenFile name.now (F.Reader.left reader) (F.Reader.failures reader) (F.rest folder.old) }
+    ensures { (old : Printed) (before : Option RunRecord) (start : Option RunRecord)
+        → HaveVerified context.now.key.now context.now.options.now number status old
+        (printed (L.taken lines.old) (L.failures lines.old)) before start
+        → TellsBytes (Read name.now) (F.Reader.left reader) start (F.rest folder.old)
+        → HaveVerified context.now.key.now context.now.options.now (length context.now.options.now.files.now) result old
+        (printed (L.taken lines.new) (L.failures lines.new)) before (F.rest folder.new) }
 {
     let most = workers_for(folder.length(&reader), workers.count());
     let outcome = verify_opened(rt, context, folder, reader, name, workers.at_most(most));
@@ -155,15 +155,13 @@ fn verify_beside<'a, T: Threads + Clock + Sync, F: Folder, L: Report>(
 ) -> u8
     requires some { (0 < count) × (count ≤ MAX_WORKERS) }
     requires name { IsFileAt context.now.options.now number name.now }
-    requires opened { (before : Option (List Event))
-        × Does (Opens name.now (F.Reader.left reader)) before (F.told folder.old) }
-    requires count { IsCounted (F.told folder.old) (F.Reader.failures reader) (Some 0) }
-    ensures { (old : Printed) (told : Option (List Event)) (before : Option (List Event))
-        → AreVerified context.now.key.now context.now.options.now number status old
-        (printed (L.taken lines.old) (L.failures lines.old)) told before
-        → Does (Opens name.now (F.Reader.left reader)) before (F.told folder.old)
-        → AreVerified context.now.key.now context.now.options.now (length context.now.options.now.files.now) result old
-        (printed (L.taken lines.new) (L.failures lines.new)) told (F.told folder.new) }
+    requires open { IsOpenFile name.now (F.Reader.left reader) (F.Reader.failures reader) (F.rest folder.old) }
+    ensures { (old : Printed) (before : Option RunRecord) (start : Option RunRecord)
+        → HaveVerified context.now.key.now context.now.options.now number status old
+        (printed (L.taken lines.old) (L.failures lines.old)) before start
+        → TellsBytes (Read name.now) (F.Reader.left reader) start (F.rest folder.old)
+        → HaveVerified context.now.key.now context.now.options.now (length context.now.options.now.files.now) result old
+        (printed (L.taken lines.new) (L.failures lines.new)) before (F.rest folder.new) }
 {
     let alloc = context.alloc;
     let Some(reserve) = room_to_start(alloc, count) else {
@@ -179,17 +177,16 @@ fn verify_beside<'a, T: Threads + Clock + Sync, F: Folder, L: Report>(
     let mut chore = || -> u8
         requires boxes { length boxes.now < MAX_WORKERS }
         requires name { IsFileAt context.now.options.now number name.now }
-        requires opened { (reader : F.Reader) × (before : Option (List Event)) × (kept ≡ Some reader)
-            × Does (Opens name.now (F.Reader.left reader)) before (F.told folder.now)
-            × IsCounted (F.told folder.now) (F.Reader.failures reader) (Some 0) }
-        ensures { (reader : F.Reader) (old : Printed) (told : Option (List Event))
-            (before : Option (List Event)) → kept.entry ≡ Some reader
-            → AreVerified context.entry.now.key.now context.entry.now.options.now number status old
-            (printed (L.taken lines.entry.now) (L.failures lines.entry.now)) told before
-            → Does (Opens name.entry.now (F.Reader.left reader)) before (F.told folder.entry.now)
-            → AreVerified context.entry.now.key.now context.entry.now.options.now
+        requires open { (reader : F.Reader) × (kept ≡ Some reader)
+            × IsOpenFile name.now (F.Reader.left reader) (F.Reader.failures reader) (F.rest folder.now) }
+        ensures { (reader : F.Reader) (old : Printed) (before : Option RunRecord) (start : Option RunRecord)
+            → kept.entry ≡ Some reader
+            → HaveVerified context.entry.now.key.now context.entry.now.options.now number status old
+            (printed (L.taken lines.entry.now) (L.failures lines.entry.now)) before start
+            → TellsBytes (Read name.entry.now) (F.Reader.left reader) start (F.rest folder.entry.now)
+            → HaveVerified context.entry.now.key.now context.entry.now.options.now
             (length context.entry.now.options.now.files.now) result old
-            (printed (L.taken lines.exit.now) (L.failures lines.exit.now)) told (F.told folder.exit.now) }
+            (printed (L.taken lines.exit.now) (L.failures lines.exit.now)) before (F.rest folder.exit.now) }
     {
         let Some(reader) = kept.take() else {
             unreachable!();
@@ -203,8 +200,8 @@ fn verify_beside<'a, T: Threads + Clock + Sync, F: Folder, L: Report>(
     with_workers(rt, alloc, boxes, &Free, &mut chore)
 }
 
-/// Checks each file's container and its label, as `open_all` does, and creates no file. With `show`, each good file has
-/// a second line with what its header says. Returns the exit status: 0 if every file is good, 1 if one failed, 2 if a
+/// Checks each file's container and its label, as `open_all` does, and creates no file. With `show`, each good file
+/// has a second line with what its header says. Returns the exit status: 0 if every file is good, 1 if one failed, 2 if a
 /// line couldn't be written.
 pub fn verify_all<
     T: Threads + Clock + Sync,
@@ -223,12 +220,14 @@ pub fn verify_all<
     requires files { 0 < length options.now.files.now }
     requires workers { (0 < options.now.workers) × (options.now.workers ≤ MAX_WORKERS) }
     requires max_bytes { options.now.max_bytes ≤ MAX_OPENED_BYTES }
+    requires idle { IsIdle (F.rest folder.old) }
+    ensures idle { IsIdle (F.rest folder.new) }
     ensures status { result ≤ 2 }
-    ensures files { AreWorked (λ name. IsOfVerifying options.now.show)
-        (Verifying key.now options.now.max_bytes (option_map (λ b. b.now) options.now.label))
+    ensures files { HaveAdded (λ name. IsOfVerifying options.now.show)
+        (AddsVerified key.now options.now.max_bytes (option_map (λ b. b.now) options.now.label))
         (map (λ name. name.now) options.now.files.now) result
-        (L.taken out.old.lines) (L.taken out.new.lines) (L.failures out.old.lines) (L.failures out.new.lines)
-        (F.told folder.old) (F.told folder.new) }
+        (printed (L.taken out.old.lines) (L.failures out.old.lines))
+        (printed (L.taken out.new.lines) (L.failures out.new.lines)) (F.rest folder.old) (F.rest folder.new) }
     ensures others { (out.new.faults ≡ out.old.faults) × (out.new.journal ≡ out.old.journal) }
 {
     let context = FilesContext {

@@ -5,7 +5,7 @@ use Rattle.std.specs.List.{AllByRecursion}
 use Rattle.io_core.specs.Streams.{IsFront}
 use Rattle.container_core.specs.Container.{container}
 use Rattle.journal_core.specs.Range.{prefix_of}
-use Rattle.output_core.specs.Bounds.{Admits, Allows, Bound, Exactly, IsWithin}
+use Rattle.output_core.specs.Bounds.{Admits, Allows, Bound, Exactly}
 use Rattle.output_core.specs.Bounds as bounds
 use Rattle.folder_core.specs.Record.{Checked, Content, Nothing, Container, Plain, Entry, Event, Happened, Holds, IsAllowed, IsSound, IsSoundWith, KeyedRange, Output, Created, RunRecord, State, WasRead, WasReadAgain, begins, bound_in, bound_of, content_at, content_in, has_number, times_begun}
 use Rattle.folder_core.specs.Changes.{IsNumberFree, IsNew, MayHold, allowed, change, closed_at, new_output, set_bytes, set_closed, set_content, whole, whole_by, with_entry}

@@ -89,6 +89,10 @@ whole r held = whole_by r.in_hand held r
 
 -- ---- what a caller shows
 
+-- Nothing is in hand.
+abbrev pub IsIdle : Option RunRecord → Type 0
+IsIdle rest = IfSome rest (λ r. r.in_hand ≡ None)
+
 -- Nothing is in hand, and the output at this place is new.
 pub record IsNew (place : ℕ) (r : RunRecord) : Type 0 where
   pub name : List ℕ

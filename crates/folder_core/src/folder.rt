@@ -10,8 +10,8 @@ ghost use Rattle.output_core.specs.Bounds.{Admits};
 ghost use Rattle.folder_core.specs.Record.{Checked, Closed, Container, Created, Finished, GivenUp, Happened};
 ghost use Rattle.folder_core.specs.Record.{IsSoundWith, Plain, Read, Refused, Repeated, RunRecord, Unread, Unrepeated};
 ghost use Rattle.folder_core.specs.Record.{bound_in};
-ghost use Rattle.folder_core.specs.Changes.{Becomes, Closes, TellsBytes, IsFresh, IsNew, MayHold, Tells, allowed, closed_at};
-ghost use Rattle.folder_core.specs.Changes.{new_output, with_entry};
+ghost use Rattle.folder_core.specs.Changes.{Becomes, Closes, TellsBytes, IsFresh, IsIdle, IsNew, MayHold, Tells, allowed};
+ghost use Rattle.folder_core.specs.Changes.{closed_at, new_output, with_entry};
 
 use crate::fault::FolderFault;
 use container_core::{Header, Key, Shape};
@@ -80,8 +80,9 @@ pub trait Folder: Outputs {
     /// What reads a file of this folder.
     type Reader: Source + Drop;
 
-    /// Opens a file for reading from its beginning.
+    /// Opens a file for reading from its beginning. Nothing is in hand.
     fn open(&mut self, name: &str) -> Result<Self::Reader, Failed>
+        requires idle { IsIdle (Self.rest self.old) }
         ensures opened { IfOk result (λ reader.
             TellsBytes (Read name.now) (Self.Reader.left reader) (Self.rest self.old) (Self.rest self.new)) }
         ensures count { IfOk result (λ reader. IfSome (Self.rest self.new) (λ _. Self.Reader.failures reader
@@ -97,7 +98,7 @@ pub trait Folder: Outputs {
         ensures length { IfSome (Self.rest self.now) (λ _. IfSome (Self.Reader.left reader.now) (λ bytes.
             IfSome result (λ n. n ≡ length bytes))) };
 
-    /// Whether the file of a reader can be read again. A pipe can't.
+    /// Whether the file of a reader is to be read again. A pipe can't be, and a folder may say no of a short file.
     fn can_repeat(&self, reader: &Self::Reader) -> bool;
 
     /// Goes back to the first byte of a file that was opened by this name: of the same open file, whatever has the name
@@ -112,8 +113,10 @@ pub trait Folder: Outputs {
         ensures taken { Self.taken self.new ≡ Self.taken self.old }
         ensures failures { Self.failures self.new ≡ Self.failures self.old };
 
-    /// Closes a file that was opened by this name. The record has how many calls of its reader failed.
+    /// Closes a file that was opened by this name. Nothing is in hand, so an output of its bytes has ended. The record
+    /// has how many calls of its reader failed.
     fn close(&mut self, name: &str, reader: Self::Reader)
+        requires idle { IsIdle (Self.rest self.old) }
         ensures closed { Tells (Closed name.now) (Self.Reader.failures reader) (Self.rest self.old)
             (Self.rest self.new) }
         ensures taken { Self.taken self.new ≡ Self.taken self.old }

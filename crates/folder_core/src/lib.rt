@@ -3,8 +3,8 @@
 //! Files that are read twice: `reader`, and `spool` for what can be read only once. Names: `places` and `trees` have the
 //! base names and places of paths, for outputs in or below one folder, and `quotes` names as a line shows them.
 //!
-//! The record of a run: which files were read, and what its outputs hold, at every moment. This part is proof only, and
-//! no command uses it yet. Begin with `folder`. An engine writes to the output in hand of a folder through `hand`.
+//! The record of a run, for proofs alone: which files were read, and what its outputs hold, at every moment. Begin with
+//! `folder`. An engine writes to the output in hand of a folder through `hand`.
 #![tactic(auto)]
 
 pub mod fault;

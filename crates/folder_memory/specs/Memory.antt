@@ -12,7 +12,7 @@ use Rattle.folder_memory.specs.declared.session.SessionNote.{SessionNote}
 use Rattle.folder_memory.specs.declared.streams.Pace.{Pace}
 use Rattle.folder_memory.specs.Noted.{session_of}
 use Rattle.folder_memory.specs.declared.told.Told.{Told}
-use Rattle.folder_memory.specs.declared.told.Told.TheVariants.{Reading, Unread, Rewound, Closed, Created, Refused, Finished, Discarded, Done}
+use Rattle.folder_memory.specs.declared.told.Told.TheVariants.{Reading, Unread, Rewound, Closed, Created, Refused, Finished, Discarded}
 
 -- a file's name, and its bytes once it is whole: put into the folder, or finished
 pub record FileView : Type 0 where
@@ -106,7 +106,6 @@ event_of (Created name) = trace.Created (string_bytes name)
 event_of (Refused name fault) = trace.Refused (string_bytes name) fault
 event_of (Finished name bytes) = trace.Finished (string_bytes name) bytes.items
 event_of (Discarded name bytes) = trace.Discarded (string_bytes name) bytes.items
-event_of (Done name failed) = trace.Done (string_bytes name) failed
 
 -- this event is to be recorded, and there was memory for it
 abbrev pub IsEvent : Option Told → List Event → Type 0
@@ -127,7 +126,6 @@ left_by name left (trace.Created other) = left
 left_by name left (trace.Refused other fault) = left
 left_by name left (trace.Finished other bytes) = if bytes_eq other name then Some bytes else left
 left_by name left (trace.Discarded other bytes) = if bytes_eq other name then None else left
-left_by name left (trace.Done other failed) = left
 
 -- if this event is recorded, it leaves each output as it was
 abbrev pub LeavesOutputs : Option Told → Type 0

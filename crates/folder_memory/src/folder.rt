@@ -2,13 +2,13 @@
 ghost use Rattle.std.specs.Prelude.{◌≡◌, ◌≢◌, ◌⊎◌, ◌↔◌, Err, ◌∷◌, ◌++◌, [], None, Some, true, false};
 ghost use Rattle.std.specs.Prelude.{ℕ, IfErr, IfOk, IfSome, OnErr, OnOk, is_err, length, option_map};
 ghost use Rattle.io_core.specs.Streams.{counted};
-ghost use Rattle.command_core.specs.Trace.{Closes, Creates, Discards, Does, Done, FailsToOpen, FailsToRewind};
-ghost use Rattle.command_core.specs.Trace.{Finishes, IsCounted, Nothing, Opens, Refuses, Rewinds, has_failed};
+ghost use Rattle.command_core.specs.Trace.{Closes, Creates, Discards, Does, FailsToOpen, FailsToRewind};
+ghost use Rattle.command_core.specs.Trace.{Finishes, IsCounted, Nothing, Opens, Refuses, Rewinds};
 ghost use Rattle.command_core.specs.Session.{IsFree, Session, started, with_begun};
 ghost use Rattle.container_core.specs.Shape.{IsShape};
 ghost use Rattle.command_core.specs.GrantedRange.{IsHeld};
 ghost use Rattle.sha2.specs.Sha256.{sha256};
-ghost use Rattle.folder_memory.specs.Memory.{IsEvent, LeavesOutputs, bytes_of, event_of, file_view, reader_view};
+ghost use Rattle.folder_memory.specs.Memory.{IsEvent, LeavesOutputs, bytes_of, file_view, reader_view};
 ghost use Rattle.folder_memory.specs.Memory.{is_sound, session_told};
 ghost use Rattle.folder_memory.specs.Memory.{after_call, fails_now, is_there, name_of, taken_by};
 ghost use Rattle.folder_memory.specs.Memory.{with_bytes, without};
@@ -17,13 +17,13 @@ use crate::memory::{Content, MemoryFolder, place_of};
 use crate::session::{SessionNote, is_shape};
 use crate::streams::{MemoryReader, MemoryWriter};
 use crate::told::{
-    Told, closed, created, discarded, done, finished, reading, refused, rewound, tell, unread,
+    Told, closed, created, discarded, finished, reading, refused, rewound, tell, unread,
 };
-use command_core::{Folder, FolderFault, OpeningFolder, Plaintext, SealingFolder};
-use container_core::{Header, Key, Shape};
+use command_core::{Folder, SealingFolder};
+use container_core::{Key, Shape};
+use folder_core::FolderFault;
 use ledger_core::{Failed, Ledger, Seat};
 use reserve_core::{Fold, LedgerFile};
-use std::alloc::Global;
 
 impl Folder for MemoryFolder {
     type Reader = MemoryReader;
@@ -217,49 +217,6 @@ impl Folder for MemoryFolder {
     ghost sound = { λ f. is_sound f.session };
 }
 
-// It gives no bound for an output.
-impl OpeningFolder for MemoryFolder {
-    fn allow_plain(
-        &mut self,
-        output: &mut MemoryWriter,
-        _key: &Key,
-        _name: &str,
-        _plain: &Plaintext,
-    )
-        ensures folder { self.new ≡ self.old }
-        ensures output { output.new ≡ output.old }
-    {}
-
-    fn allow_checked(
-        &mut self,
-        output: &mut MemoryWriter,
-        _key: &Key,
-        _header: &Header,
-        _name: &str,
-        _reader: &MemoryReader,
-    )
-        ensures folder { self.new ≡ self.old }
-        ensures output { output.new ≡ output.old }
-    {}
-
-    fn complete(&mut self, output: MemoryWriter) -> Result<(), MemoryWriter> {
-        let event = done_with(self.alloc, &output);
-        match self.finish(output) {
-            Ok(()) => {
-                self.record(event);
-                Ok(())
-            }
-            Err(output) => Err(output),
-        }
-    }
-
-    fn give_up(&mut self, output: MemoryWriter) {
-        let event = done_with(self.alloc, &output);
-        let _ = self.discard(output);
-        self.record(event);
-    }
-}
-
 impl MemoryFolder {
     // Records an event that leaves each output as it was, or forgets what happened.
     fn record(&mut self, event: Option<Told>)
@@ -269,16 +226,6 @@ impl MemoryFolder {
     {
         tell(&mut self.told, event);
     }
-}
-
-// The event that the writer of a plaintext is done, unless it isn't known whether a write to it failed.
-fn done_with(alloc: Global, output: &MemoryWriter) -> Option<Told>
-    ensures leaves { LeavesOutputs result }
-    ensures event { IfSome result (λ told. (n : ℕ) × (output.now.failures ≡ Some n)
-        × (event_of told ≡ Done (name_of output.now) (has_failed n))) }
-{
-    let failures = output.failures?;
-    done(alloc, output.name.as_str(), failures != 0)
 }
 
 // It gives no bound for an output. Both calls leave the files, the record and the calls that are to fail as they are.

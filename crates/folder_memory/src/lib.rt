@@ -3,11 +3,13 @@
 #![tactic(auto)]
 
 pub mod folder;
+pub mod hands;
 pub mod memory;
 pub mod session;
 pub mod streams;
 pub mod told;
 
+pub use crate::hands::MemoryHandle;
 pub use crate::memory::MemoryFolder;
 pub use crate::streams::{MemoryReader, MemoryWriter, Pace, STEADY};
 pub use crate::told::Told;

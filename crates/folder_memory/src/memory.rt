@@ -11,7 +11,7 @@ ghost use Rattle.folder_memory.specs.Memory.{after_call, fails_now, is_there, to
 use crate::session::SessionNote;
 use crate::streams::{MemoryWriter, Pace, STEADY, Shown, new_writer};
 use crate::told::Told;
-use command_core::FolderFault;
+use folder_core::FolderFault;
 use std::alloc::{AllocError, Global};
 use std::marker::Model;
 
@@ -42,6 +42,8 @@ pub struct MemoryFolder {
     pub(crate) hides_lengths: bool,
     // What happened, unless something was forgotten.
     pub(crate) told: Option<Vec<Told>>,
+    // The output in hand, if one is. Contracts don't see it.
+    pub(crate) in_hand: Option<MemoryWriter>,
     // The session that it was given, unless that was forgotten.
     pub(crate) session: Option<SessionNote>,
 }
@@ -73,6 +75,7 @@ impl MemoryFolder {
             writers: STEADY,
             hides_lengths: false,
             told: Some(Vec::new(alloc)),
+            in_hand: None,
             session: None,
         }
     }

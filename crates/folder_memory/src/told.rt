@@ -1,10 +1,10 @@
 //! What happened in a folder in memory, and how it is recorded.
 ghost use Rattle.std.specs.Prelude.{◌≡◌, IfSome, map, option_map};
-ghost use Rattle.command_core.specs.Trace.{Closed, Created, Discarded, Does, Done, Finished, Reading, Refused, Rewound};
+ghost use Rattle.command_core.specs.Trace.{Closed, Created, Discarded, Does, Finished, Reading, Refused, Rewound};
 ghost use Rattle.command_core.specs.Trace.{Unread};
 ghost use Rattle.folder_memory.specs.Memory.{IsEvent, event_of};
 
-use command_core::FolderFault;
+use folder_core::FolderFault;
 use std::alloc::Global;
 
 /// What happened in a folder.
@@ -26,8 +26,6 @@ pub enum Told {
     Finished(String, Vec<u8>),
     /// An output was discarded with these bytes, and its removal was tried.
     Discarded(String, Vec<u8>),
-    /// The writer of a plaintext is done; `true`: a write to it had failed, or its end.
-    Done(String, bool),
 }
 
 /// Records what happened, or forgets the record if memory for it was refused.
@@ -113,12 +111,4 @@ pub(crate) fn discarded(alloc: Global, name: &str, bytes: &[u8]) -> Option<Told>
     let name = String::from_str(alloc, name).ok()?;
     let bytes = Vec::from_slice(alloc, bytes).ok()?;
     Some(Told::Discarded(name, bytes))
-}
-
-/// The event that the writer of a plaintext is done, and whether a write to it had failed, or its end.
-pub(crate) fn done(alloc: Global, name: &str, failed: bool) -> Option<Told>
-    ensures { IfSome result (λ told. event_of told ≡ Done name.now failed) }
-{
-    let name = String::from_str(alloc, name).ok()?;
-    Some(Told::Done(name, failed))
 }

@@ -1,5 +1,3 @@
 mod Files
 mod Known
-mod OnePut
-mod Restores
 mod Two

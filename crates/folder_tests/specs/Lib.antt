@@ -1,4 +1,2 @@
 pub mod Noted
 pub mod Memory
-pub mod Putting
-pub mod Restoring

@@ -1,82 +1,20 @@
-//! The engines write to the output in hand of a folder. They know nothing of its record, and the record is what it was.
-ghost use Rattle.std.specs.Prelude.{◌≡◌, ℕ, ◌<◌, ◌≤◌, List, drop, take, IfSome, option_map};
+//! An engine that seals writes to the output in hand of a folder. It knows nothing of its record, and the record is what
+//! it was.
+ghost use Rattle.std.specs.Prelude.{◌≡◌, ℕ, ◌<◌, ◌≤◌, List, drop, take, option_map};
 ghost use Rattle.container_core.specs.Container.{hint_of};
-ghost use Rattle.opening_core.specs.Twice.{HasWrittenAgain, MayWrite};
 ghost use Rattle.output_core.specs.Bounds.{Admits};
 ghost use Rattle.sealing_core.specs.Pipe.{HasPiped, whole};
 ghost use Rattle.folder_core.specs.Record.{bound_in};
 
 use claim_core::{Gate, MAX_DEPTH, MAX_WORKERS};
-use container_core::{Header, Key, MAX_OPENED, SealFault};
+use container_core::{Header, Key, SealFault};
 use folder_core::{Outputs, Rest, lent_of, taken_in_hand};
 use io_core::Source;
-use opening_core::{Stopped, Workers, write_again};
 use sealing_core::pipe;
 use std::alloc::Global;
 use std::marker::Brand;
 use std::sync::Wait;
 use std::thread::Threads;
-use std::time::Clock;
-
-// Writes by `write_again`. The record and the folder are those that are named.
-fn again_named<'a, N: Rest, T: Threads + Clock + Sync, R: Source, F: Outputs, G: Gate + Sync>(
-    rt: &T,
-    alloc: Global,
-    key: &Key,
-    header: &Header,
-    reader: &mut R,
-    folder: &'a mut F,
-    max_bytes: u64,
-    workers: u32,
-    gate: &G,
-) -> (Result<u64, Stopped>, &'a mut F)
-    requires max_bytes { max_bytes ≤ MAX_OPENED }
-    requires workers { (0 < workers) × (workers ≤ MAX_WORKERS) }
-    requires rest { F.rest folder.old ≡ N.rest }
-    requires reference { folder.ghost_name ≡ N.folder }
-    requires may { IfSome (option_map bound_in N.rest)
-        (MayWrite key.now header.now max_bytes (R.left reader.old) (F.taken folder.old)) }
-    ensures rest { F.rest result.1.now ≡ N.rest }
-    ensures reference { result.1.ghost_name ≡ folder.entry.ghost_name }
-    ensures written { HasWrittenAgain key.now header.now max_bytes (R.left reader.old)
-        (F.taken folder.old) (F.taken result.1.now) (R.failures reader.old) (R.failures reader.new)
-        (F.failures folder.old) (F.failures result.1.now) result.0 }
-{
-    let output = taken_in_hand::<F, N>(folder);
-    let workers = Workers::ToStart(workers);
-    let (done, output) = write_again(
-        rt, alloc, key, header, reader, output, max_bytes, workers, gate,
-    );
-    (done, lent_of(output))
-}
-
-/// Writes the plaintext of a container with this header, which is read once more, to the output in hand. See
-/// `opening_core::write_again`.
-pub fn fill_again<T: Threads + Clock + Sync, R: Source, F: Outputs, G: Gate + Sync>(
-    rt: &T,
-    alloc: Global,
-    key: &Key,
-    header: &Header,
-    reader: &mut R,
-    folder: &mut F,
-    max_bytes: u64,
-    workers: u32,
-    gate: &G,
-) -> Result<u64, Stopped>
-    requires max_bytes { max_bytes ≤ MAX_OPENED }
-    requires workers { (0 < workers) × (workers ≤ MAX_WORKERS) }
-    requires may { IfSome (option_map bound_in (F.rest folder.old))
-        (MayWrite key.now header.now max_bytes (R.left reader.old) (F.taken folder.old)) }
-    ensures rest { F.rest folder.new ≡ F.rest folder.old }
-    ensures written { HasWrittenAgain key.now header.now max_bytes (R.left reader.old)
-        (F.taken folder.old) (F.taken folder.new) (R.failures reader.old) (R.failures reader.new)
-        (F.failures folder.old) (F.failures folder.new) result }
-{
-    let (done, _) = again_named::<Brand, T, R, F, G>(
-        rt, alloc, key, header, reader, folder, max_bytes, workers, gate,
-    );
-    done
-}
 
 // Writes by `pipe`. The record and the folder are those that are named.
 fn sealed_named<'a, N: Rest, T: Threads + Wait + Sync, R: Source, F: Outputs, G: Gate + Sync>(

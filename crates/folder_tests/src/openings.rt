@@ -1,28 +1,17 @@
-//! A container in a folder in memory is opened in each of the two ways, whichever call fails.
+//! A container in a folder in memory is opened in each of the two ways, and verified, whichever call fails.
+ghost use Rattle.std.specs.Prelude.{◌≡◌, ◌<◌, ◌^◌, IfSome, length};
+ghost use Rattle.folder_core.specs.Changes.{IsIdle};
+ghost use Rattle.folder_tests.specs.Memory.{rest_of};
+
 use crate::memory::MemoryFolder;
 use crate::pages::Limits;
-use crate::putting::FillFault;
-use crate::restoring::{RestoreFault, restore};
-use container_core::{Key, OpenFault, Shape, seal};
-use folder_core::{Folder, FolderFault, Outputs, finish_or_discard};
-use opening_core::Stopped;
+use command_core::{OpenOptions, Outs, open_all, verify_all};
+use container_core::{Key, Shape, seal};
+use folder_core::{Folder, Outputs, finish_or_discard};
+use io_memory::{Schedule, ToMemory};
 use std::alloc::Global;
 use std::thread::Threads;
 use std::time::Clock;
-
-// How an opening ended: whole, or because of this call, or because of the key.
-#[derive(Clone, Copy, PartialEq, Eq)]
-enum End {
-    Whole,
-    Open,
-    Read,
-    Key,
-    Again,
-    Create,
-    Write,
-    ReadAgain,
-    Other,
-}
 
 // No call fails, and files can be read again.
 const NONE: Limits = Limits {
@@ -39,36 +28,19 @@ const ONCE: Limits = Limits {
     ..NONE
 };
 
-fn end_of(ended: Result<u64, RestoreFault>) -> End {
-    match ended {
-        Ok(n) if n == 9 => End::Whole,
-        Err(RestoreFault::Unread) => End::Open,
-        Err(RestoreFault::Unopened(OpenFault::Read)) => End::Read,
-        Err(RestoreFault::Unopened(OpenFault::KeyMismatch)) => End::Key,
-        Err(RestoreFault::Unrepeated) => End::Again,
-        Err(RestoreFault::Unput(FillFault::Uncreated(FolderFault::Exists))) => End::Create,
-        Err(RestoreFault::Unput(FillFault::Unfilled(Stopped::Broken(OpenFault::Write)))) =>
-            End::Write,
-        Err(RestoreFault::Unput(FillFault::Unfilled(Stopped::Broken(OpenFault::Read)))) =>
-            End::ReadAgain,
-        Ok(_) | Err(RestoreFault::Unopened(_)) | Err(RestoreFault::Unput(_)) => End::Other,
-    }
-}
+const PLAIN: &[u8] = b"forty-two";
 
-// Opens the file of this name in a folder in which `a.stm` is a container under the key of 7, within these limits. `None`
-// if memory was refused, or unless the output `a` has the plaintext where the opening is whole, and isn't there otherwise.
-fn opened_within<T: Threads + Clock + Sync>(
-    rt: &T,
-    alloc: Global,
-    name: &str,
-    output: &str,
-    secret: u8,
-    limits: Limits,
-) -> Option<End> {
-    let plain = b"forty-two".as_slice();
+const OPENED: &str = "opened a.stm bytes 9\n";
+
+const READ_FAILED: &str = "failed a.stm: read failed\n";
+
+// A folder in which `a.stm` is a container of that plaintext under the key of 7, within these limits.
+fn folder_within(alloc: Global, limits: Limits) -> Option<MemoryFolder>
+    ensures idle { IfSome result (λ folder. IsIdle (rest_of folder.pages)) }
+{
     let key = Key::new([7; 32]);
     let shape = Shape::one();
-    let Ok(sealed) = seal(alloc, &key, &shape, [0, 0, 1, 0, 0, 0, 3], plain) else {
+    let Ok(sealed) = seal(alloc, &key, &shape, [0, 0, 1, 0, 0, 0, 3], PLAIN) else {
         return None;
     };
     let mut folder = MemoryFolder::new(alloc, [7; 32], 1, 3, 2);
@@ -83,73 +55,212 @@ fn opened_within<T: Threads + Clock + Sync>(
         return None;
     };
     folder.limit(limits);
-    let key = Key::new([secret; 32]);
-    let end = end_of(restore(rt, alloc, &mut folder, name, output, &key, 1 << 20, 2));
-    let is_as_told = match folder.bytes("a") {
-        Some(bytes) => end == End::Whole && bytes.as_slice() == plain,
-        None => end != End::Whole,
+    Some(folder)
+}
+
+// What is asked for.
+#[derive(Drop)]
+struct Asked<'n> {
+    files: &'n [&'n str],
+    to: Option<&'n str>,
+    secret: u8,
+    verifies: bool,
+}
+
+// The file is opened under its own key.
+const OPEN: Asked<'static> = Asked {
+    files: &["a.stm"],
+    to: None,
+    secret: 7,
+    verifies: false,
+};
+
+// The options of it, with two workers.
+fn options_of<'n>(asked: &Asked<'n>) -> OpenOptions<'n>
+    ensures files { 0 < length asked.now.files.now → 0 < length result.files.now }
+    ensures workers { result.workers ≡ 2 }
+    ensures max_bytes { result.max_bytes ≡ 2 ^ 20 }
+{
+    OpenOptions {
+        files: asked.files,
+        workers: 2,
+        max_bytes: 1 << 20,
+        label: None,
+        to: asked.to,
+        show: false,
+    }
+}
+
+// Whether a command prints this line, and no other, has the status that goes with it, and leaves an output exactly where
+// a file was opened, with the plaintext. `false` also if memory is refused.
+fn prints<T: Threads + Clock + Sync>(
+    rt: &T,
+    alloc: Global,
+    asked: &Asked<'_>,
+    limits: Limits,
+    line: &str,
+) -> bool {
+    if asked.files.is_empty() {
+        return false;
+    }
+    let Some(mut folder) = folder_within(alloc, limits) else {
+        return false;
     };
-    if is_as_told { Some(end) } else { None }
+    let Ok(lines) = ToMemory::new(alloc, 64, 64, Schedule::Never) else {
+        return false;
+    };
+    let Ok(faults) = ToMemory::new(alloc, 1, 1, Schedule::Never) else {
+        return false;
+    };
+    let journal: Option<ToMemory> = None;
+    let mut out = Outs {
+        lines,
+        faults,
+        journal,
+    };
+    let key = Key::new([asked.secret; 32]);
+    let options = options_of(asked);
+    let status = if asked.verifies {
+        verify_all(rt, alloc, &key, &mut folder, &options, &mut out)
+    } else {
+        open_all(rt, alloc, &key, &mut folder, &options, &mut out)
+    };
+    let is_output = match folder.bytes("a") {
+        Some(bytes) => line == OPENED && bytes.as_slice() == PLAIN,
+        None => line != OPENED,
+    };
+    let has_failed = line.starts_with("failed");
+    is_output && out.lines.bytes() == line.as_bytes() && status == u8::from(has_failed)
 }
 
-// How it ended of `a.stm`, under its own key.
-fn end_within<T: Threads + Clock + Sync>(rt: &T, alloc: Global, limits: Limits) -> Option<End> {
-    opened_within(rt, alloc, "a.stm", "a", 7, limits)
-}
-
-// Whether, as ever more reads succeed, the first reading fails, then the second if there is one, and at last none.
-fn fails_at_each_read<T: Threads + Clock + Sync>(rt: &T, alloc: Global, limits: Limits) -> bool {
-    let (mut first, mut second, mut whole) = (false, false, false);
+// How many reads an opening takes. Where fewer succeed its line says that a read failed; `None` if it says something else.
+fn reads_of<T: Threads + Clock + Sync>(rt: &T, alloc: Global, limits: Limits) -> Option<u64> {
     for reads in 0..16u64 {
-        match end_within(rt, alloc, Limits { reads, ..limits }) {
-            Some(End::Read) if !second && !whole => first = true,
-            Some(End::ReadAgain) if first && !whole => second = true,
-            Some(End::Whole) => whole = true,
-            _ => return false,
+        let limits = Limits { reads, ..limits };
+        if prints(rt, alloc, &OPEN, limits, OPENED) {
+            return Some(reads);
+        }
+        if !prints(rt, alloc, &OPEN, limits, READ_FAILED) {
+            return None;
         }
     }
-    first && whole && second == limits.can_repeat
+    None
 }
 
 #[test]
 fn both_ways_give_the_plaintext(rt: HostRuntime) {
-    assert!(rt; end_within(&rt, rt.alloc(), NONE) == Some(End::Whole));
-    assert!(rt; end_within(&rt, rt.alloc(), ONCE) == Some(End::Whole));
+    assert!(rt; prints(&rt, rt.alloc(), &OPEN, NONE, OPENED));
+    assert!(rt; prints(&rt, rt.alloc(), &OPEN, ONCE, OPENED));
+}
+
+#[test]
+fn a_file_that_is_verified_has_no_output(rt: HostRuntime) {
+    let asked = Asked {
+        verifies: true,
+        ..OPEN
+    };
+    assert!(rt; prints(&rt, rt.alloc(), &asked, NONE, "good a.stm bytes 9\n"));
+}
+
+// Whether one folder with a record serves three commands in turn: the file is verified, opened, and refused, as its output
+// exists by then. `false` also if memory is refused.
+fn serves_in_turn<T: Threads + Clock + Sync>(rt: &T, alloc: Global, limits: Limits) -> bool {
+    let Some(mut folder) = folder_within(alloc, limits) else {
+        return false;
+    };
+    let Ok(lines) = ToMemory::new(alloc, 128, 64, Schedule::Never) else {
+        return false;
+    };
+    let Ok(faults) = ToMemory::new(alloc, 1, 1, Schedule::Never) else {
+        return false;
+    };
+    let journal: Option<ToMemory> = None;
+    let mut out = Outs {
+        lines,
+        faults,
+        journal,
+    };
+    let key = Key::new([7; 32]);
+    let options = options_of(&OPEN);
+    let verified = verify_all(rt, alloc, &key, &mut folder, &options, &mut out);
+    let opened = open_all(rt, alloc, &key, &mut folder, &options, &mut out);
+    let refused = open_all(rt, alloc, &key, &mut folder, &options, &mut out);
+    let all = "good a.stm bytes 9\nopened a.stm bytes 9\nfailed a.stm: output exists\n";
+    (verified, opened, refused) == (0, 0, 1) && out.lines.bytes() == all.as_bytes()
+}
+
+#[test]
+fn a_folder_serves_one_command_after_another(rt: HostRuntime) {
+    for limits in [NONE, ONCE] {
+        assert!(rt; serves_in_turn(&rt, rt.alloc(), limits));
+    }
 }
 
 #[test]
 fn what_does_not_open_has_no_output(rt: HostRuntime) {
-    assert!(rt; opened_within(&rt, rt.alloc(), "a.stm", "a", 8, NONE) == Some(End::Key));
-    assert!(rt; opened_within(&rt, rt.alloc(), "a.stm", "a", 8, ONCE) == Some(End::Key));
-    assert!(rt; opened_within(&rt, rt.alloc(), "b.stm", "a", 7, NONE) == Some(End::Open));
+    let other = Asked { secret: 8, ..OPEN };
+    let missing = Asked {
+        files: &["b.stm"],
+        ..OPEN
+    };
+    for limits in [NONE, ONCE] {
+        let line = "failed a.stm: sealed under another key\n";
+        assert!(rt; prints(&rt, rt.alloc(), &other, limits, line));
+        assert!(rt;
+            prints(
+                &rt,
+                rt.alloc(),
+                &missing,
+                limits,
+                "failed b.stm: cannot open\n"
+            )
+        );
+    }
 }
 
 #[test]
 fn an_output_that_exists_is_refused(rt: HostRuntime) {
-    assert!(rt; opened_within(&rt, rt.alloc(), "a.stm", "a.stm", 7, NONE) == Some(End::Create));
-    assert!(rt; opened_within(&rt, rt.alloc(), "a.stm", "a.stm", 7, ONCE) == Some(End::Create));
+    let onto = Asked {
+        to: Some("a.stm"),
+        ..OPEN
+    };
+    for limits in [NONE, ONCE] {
+        assert!(rt;
+            prints(
+                &rt,
+                rt.alloc(),
+                &onto,
+                limits,
+                "failed a.stm: output exists\n"
+            )
+        );
+    }
 }
 
 #[test]
 fn a_failed_write_or_end_leaves_no_output(rt: HostRuntime) {
     for limits in [NONE, ONCE] {
-        assert!(rt;
-            end_within(
-                &rt,
-                rt.alloc(),
-                Limits {
-                    writes: 0,
-                    ..limits
-                }
-            ) == Some(End::Write)
-        );
-        assert!(rt; end_within(&rt, rt.alloc(), Limits { ends: 0, ..limits }) == Some(End::Write));
+        let line = "failed a.stm: write failed\n";
+        let writes = Limits {
+            writes: 0,
+            ..limits
+        };
+        let ends = Limits { ends: 0, ..limits };
+        assert!(rt; prints(&rt, rt.alloc(), &OPEN, writes, line));
+        assert!(rt; prints(&rt, rt.alloc(), &OPEN, ends, line));
     }
 }
 
 #[test]
 fn a_failed_read_leaves_no_output(rt: HostRuntime) {
-    assert!(rt; end_within(&rt, rt.alloc(), Limits { turns: 0, ..NONE }) == Some(End::Again));
-    assert!(rt; fails_at_each_read(&rt, rt.alloc(), NONE));
-    assert!(rt; fails_at_each_read(&rt, rt.alloc(), ONCE));
+    let turns = Limits { turns: 0, ..NONE };
+    assert!(rt; prints(&rt, rt.alloc(), &OPEN, turns, READ_FAILED));
+    let (Some(once), Some(twice)) = (
+        reads_of(&rt, rt.alloc(), ONCE),
+        reads_of(&rt, rt.alloc(), NONE),
+    ) else {
+        panic!(rt; "an opening fails in another way");
+    };
+    // The second reading fails too.
+    assert!(rt; 0 < once && once < twice);
 }

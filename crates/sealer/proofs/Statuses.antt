@@ -13,6 +13,9 @@ use Rattle.command_core.specs.declared.line.FileOutcome.{FileOutcome}
 use Rattle.command_core.specs.declared.line.FileOutcome.TheVariants.{Sealed, Opened, Good, Shown, Failed}
 use Rattle.sealer_core.specs.Piping.{WorksStream}
 use Rattle.command_core.specs.Lines.{FileLine, lines_text}
+use Rattle.folder_core.specs.Record.{Entry, RunRecord}
+use Rattle.command_core.specs.Files.{HaveAdded}
+use Rattle.command_core.specs.Turns.{Printed}
 use Rattle.command_core.specs.Work.{AreTold}
 use Rattle.system_files.specs.Kept.{IsSplit, kept_text}
 use Rattle.command_line.specs.Given.{IsFlag}
@@ -24,6 +27,13 @@ pub of_lines : (fits : List ℕ → FileOutcome → Type 0) (status : ℕ) (line
     → AreTold status lines old new failures failures' → IsStatusOf fits status (map (λ line. line.name) lines) old new
 of_lines fits status lines old new _ _ fitting told = ⊎_elim (λ two. inl two)
     (λ other. inr (lines, refl, fitting, (told.whole other).0, (told.whole other).1)) (cases_eq status 2)
+
+-- lines of files that were opened or verified
+pub of_added : (fits : List ℕ → FileOutcome → Type 0) (adds : List ℕ → FileOutcome → List Entry → Type 0) (names : List (List ℕ))
+    (status : ℕ) (old new : Printed) (before after : Option RunRecord) → HaveAdded fits adds names status old new before after
+    → IsStatusOf fits status names old.taken new.taken
+of_added fits adds names status old new before after added = subst (λ n. IsStatusOf fits status n old.taken new.taken) added.named
+    (of_lines fits status added.lines old.taken new.taken old.failures new.failures added.fitting added.told)
 
 -- and a journal that was written after them, or wasn't
 pub of_written : (fits : List ℕ → FileOutcome → Type 0) (status told : ℕ) (written : Bool) (lines : List FileLine)

@@ -1,6 +1,9 @@
 //! The commands that open and verify.
 ghost use Rattle.std.specs.Prelude.{◌<◌, ◌≤◌, ◌≡◌, length, map, option_map};
-ghost use Rattle.command_core.specs.Work.{AreWorked, IsOfOpening, IsOfVerifying, Opening, Verifying, output_for};
+ghost use Rattle.command_core.specs.Files.{AddsOpened, AddsVerified, HaveAdded};
+ghost use Rattle.folder_core.specs.Changes.{IsIdle};
+ghost use Rattle.command_core.specs.Turns.{printed};
+ghost use Rattle.command_core.specs.Work.{IsOfOpening, IsOfVerifying, output_for};
 ghost use Rattle.sealer.specs.Status.{IsOfCommand, IsOfReading, IsStatusOf, IsStatusOver};
 
 use crate::files::{clear, key_at, outs_of, progress_of, streams_of};
@@ -10,9 +13,8 @@ use crate::{OverFiles, Streams, print_complaint};
 use clap::ArgMatches;
 use command_line::{OpenRequest, Reading, UsageFault, naming_asked, open_request};
 use container_core::{Key, MAX_OPENED};
-use sealer_core::{
-    Folder, MAX_WORKERS, OpenOptions, OpeningFolder, Outs, Report, open_all, verify_all,
-};
+use folder_core::{Folder, OpeningFolder};
+use sealer_core::{MAX_WORKERS, OpenOptions, Outs, Report, open_all, verify_all};
 use std::io::{Read, Write};
 use std::rt::{Clock, Files};
 use std::thread::Threads;
@@ -195,12 +197,13 @@ fn open_files<
     requires files { 0 < length request.now.files.now }
     requires workers { (0 < request.now.workers) × (request.now.workers ≤ MAX_WORKERS) }
     requires max_bytes { request.now.max_bytes ≤ MAX_OPENED }
-    ensures files { AreWorked (IsOfOpening (option_map (λ to. to.now) request.now.to))
-        (λ name. Opening key.now request.now.max_bytes (option_map (λ b. b.now) request.now.label)
+    requires idle { IsIdle (F.rest folder.old) }
+    ensures files { HaveAdded (IsOfOpening (option_map (λ to. to.now) request.now.to))
+        (λ name. AddsOpened key.now request.now.max_bytes (option_map (λ b. b.now) request.now.label)
         (output_for (option_map (λ to. to.now) request.now.to) name) name)
         (map (λ name. name.now) request.now.files.now) result
-        (L.taken out.old.lines) (L.taken out.new.lines) (L.failures out.old.lines) (L.failures out.new.lines)
-        (F.told folder.old) (F.told folder.new) }
+        (printed (L.taken out.old.lines) (L.failures out.old.lines))
+        (printed (L.taken out.new.lines) (L.failures out.new.lines)) (F.rest folder.old) (F.rest folder.new) }
     ensures others { (out.new.faults ≡ out.old.faults) × (out.new.journal ≡ out.old.journal) }
 {
     open_all(rt, rt.alloc(), key, folder, &options_of(request), out)
@@ -217,11 +220,12 @@ fn verify_files<
     requires files { 0 < length request.now.files.now }
     requires workers { (0 < request.now.workers) × (request.now.workers ≤ MAX_WORKERS) }
     requires max_bytes { request.now.max_bytes ≤ MAX_OPENED }
-    ensures files { AreWorked (λ name. IsOfVerifying request.now.show)
-        (Verifying key.now request.now.max_bytes (option_map (λ b. b.now) request.now.label))
+    requires idle { IsIdle (F.rest folder.old) }
+    ensures files { HaveAdded (λ name. IsOfVerifying request.now.show)
+        (AddsVerified key.now request.now.max_bytes (option_map (λ b. b.now) request.now.label))
         (map (λ name. name.now) request.now.files.now) result
-        (L.taken out.old.lines) (L.taken out.new.lines) (L.failures out.old.lines) (L.failures out.new.lines)
-        (F.told folder.old) (F.told folder.new) }
+        (printed (L.taken out.old.lines) (L.failures out.old.lines))
+        (printed (L.taken out.new.lines) (L.failures out.new.lines)) (F.rest folder.old) (F.rest folder.new) }
     ensures others { (out.new.faults ≡ out.old.faults) × (out.new.journal ≡ out.old.journal) }
 {
     verify_all(rt, rt.alloc(), key, folder, &options_of(request), out)

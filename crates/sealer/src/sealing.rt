@@ -138,9 +138,36 @@ fn seal_to<
         folder.keep_out(path.as_str());
     }
     let mut out = outs_of(streams, progress, journal);
-    let status = seal_in_turn(rt, host, &key, request, &mut folder, &mut out, causes);
+    let status = seal_in_folder(rt, host, &key, request, &mut folder, &mut out, causes);
     clear(progress);
     (status, streams_of(out, terminals))
+}
+
+// The same over any reports: a call that meets both large types has no proof.
+fn seal_in_folder<
+    'r,
+    R: Files + AllocGlobal + Clock + Eprint + Threads + Wait + Sync,
+    L: Report + Drop,
+    E: Report + Drop,
+    J: Report + Drop,
+>(
+    rt: &R,
+    host: &'r HostRuntime,
+    key: &Key,
+    request: &SealRequest<'_, 'r>,
+    folder: &mut SystemFiles<'_, 'r, R, R::File>,
+    out: &mut Outs<L, E, J>,
+    causes: bool,
+) -> u8
+    requires files { 0 < length request.now.files.now }
+    requires workers { (0 < request.now.workers) × (request.now.workers ≤ MAX_WORKERS) }
+    requires window { (0 < request.now.window) × (request.now.window ≤ MAX_WINDOW) }
+    requires lanes { (0 < request.now.lanes) × (request.now.lanes ≤ MAX_LANES) }
+    requires max_bytes { request.now.max_bytes ≤ MAX_BYTES }
+    ensures status { IsStatusOf (λ name. IsOfSealing) result (map (λ name. name.now) request.now.files.now)
+        (L.taken out.old.lines) (L.taken out.new.lines) }
+{
+    seal_in_turn(rt, host, key, request, folder, out, causes)
 }
 
 // Seals the files once the ledger file can be opened. If another process holds it, the run waits as long as it is asked

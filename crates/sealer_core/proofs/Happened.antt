@@ -13,7 +13,7 @@ use Rattle.ledger_core.specs.declared.fault.IssueFault.TheVariants as issue_faul
 use Rattle.sealing_core.specs.Engine.{BeginsContainer}
 use Rattle.io_core.specs.Streams.{Appends, AppendsFront, Keeps}
 use Rattle.journal_core.specs.Range.{prefix_of}
-use Rattle.command_core.specs.declared.folder.FolderFault.{FolderFault}
+use Rattle.folder_core.specs.declared.fault.FolderFault.{FolderFault}
 use Rattle.command_core.specs.declared.line.FileFault.{FileFault}
 use Rattle.command_core.specs.declared.line.FileFault.TheVariants.{CannotOpen, OutputExists, CannotCreate, OutOfMemory, Unsealed}
 use Rattle.command_core.specs.declared.line.FileOutcome.{FileOutcome}

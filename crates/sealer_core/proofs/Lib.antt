@@ -10,6 +10,7 @@ pub mod Life
 pub mod Lives
 pub mod Matches
 pub mod Numbering
+pub mod Opened
 pub mod Openings
 pub mod OutputLaws
 pub mod Outputs

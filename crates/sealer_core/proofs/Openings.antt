@@ -10,16 +10,21 @@ use Rattle.container_core.specs.Stream.{prefix_in, stream}
 use Rattle.container_core.proofs.HeaderLemmas.{length-header_of, length-prefix_in}
 use Rattle.command_core.specs.declared.line.FileOutcome.{FileOutcome}
 use Rattle.command_core.specs.declared.line.FileOutcome.TheVariants.{Opened, Sealed}
-use Rattle.command_core.specs.Trace.{Event, Closed, Created, Done, Finished, Reading}
+use Rattle.command_core.specs.Files.{AddsOpened, FileEntries}
+use Rattle.command_core.specs.Trace.{Event, Closed, Finished}
 use Rattle.command_core.specs.Unpiping.{Unpipes}
-use Rattle.command_core.specs.Work.{AreBefore, Opening, output_for}
+use Rattle.command_core.specs.Work.{output_for}
+use Rattle.folder_core.specs.Record.{RunRecord}
+use Rattle.folder_core.specs.Record as record_of
 use Rattle.journal_core.specs.declared.entry.Entry.{Entry}
 use Rattle.journal_core.specs.declared.terms.Terms.{Terms}
 use Rattle.journal_core.specs.Range.{prefix_of}
 use Rattle.sealer_core.specs.Piping.{WorksStream}
 use Rattle.sealer_core.specs.Sealing.{Sealing, group_events, sealed_name}
-use Rattle.sealer_core.specs.Restored.{IsAmong, OpenedFiles, WasOpened, WasSealed, WroteFiles, WroteStream, finished_in, read_in}
-use Rattle.sealer_core.proofs.Finished.{IsOfInput, IsOpened, of_groups, of_works, some_opened, work_events}
+use Rattle.sealer_core.specs.Restored.{IsAmong, IsFinishedAmong, OpenedFiles, WasOpened, WasSealed, WroteFiles, WroteStream}
+use Rattle.sealer_core.specs.Restored.{finished_in, finished_of, read_in, readings_of}
+use Rattle.sealer_core.proofs.Finished.{IsOfInput, of_groups}
+use Rattle.sealer_core.proofs.Opened.{AreOpened, all_opened, opens_to, was_opened}
 
 long_enough : (key : List ℕ) (shape : ShapeView) (prefix plain : List ℕ) → length prefix ≡ 7 → 17 ≤ length (container key shape prefix plain)
 unfolding container
@@ -37,18 +42,18 @@ last_of x y z (e ∷ []) (inr same) = cc
 last_of x y z (e ∷ f ∷ []) (inr same) = absurd (cc)
 last_of x y z (e ∷ f ∷ g ∷ earlier) (inr same) = absurd (cc)
 
--- the last of one or two readings, and what was finished after them
-last_read : (key : List ℕ) (most : ℕ) (label : Option (List ℕ)) (target other last plain written : List ℕ) (before events : List Event) (earlier : List (List ℕ))
-    → AreBefore key most label other last before
-    → events ≡ (before ++ Reading other last ∷ Created target ∷ Finished target plain ∷ Done target false ∷ []) ++ Closed other false ∷ []
-    → read_in events ≡ earlier ++ written ∷ []
-    → (last ≡ written) × (finished_in events ≡ plain ∷ [])
-last_read key most label target other last plain written before events earlier (inl none) did same =
-    let all = did ∙ ap (λ l. (l ++ Reading other last ∷ Created target ∷ Finished target plain ∷ Done target false ∷ []) ++ Closed other false ∷ []) none in
-    (last_of last last written earlier (inl (sym (ap read_in all) ∙ same)), ap finished_in all)
-last_read key most label target other last plain written before events earlier (inr (header, first, text, good, has, too, one)) did same =
-    let all = did ∙ ap (λ l. (l ++ Reading other last ∷ Created target ∷ Finished target plain ∷ Done target false ∷ []) ++ Closed other false ∷ []) one in
-    (last_of last first written earlier (inr (sym (ap read_in all) ∙ same)), ap finished_in all)
+-- what was finished for a line is what the last reading opens to
+last_opens : (key : List ℕ) (most n : ℕ) (label : Option (List ℕ)) (target other written : List ℕ) (entries : List record_of.Entry) (earlier : List (List ℕ))
+    → AddsOpened key most label target other (Opened n) entries → readings_of entries ≡ earlier ++ written ∷ []
+    → (plain : List ℕ) × (opening key most written ≡ Ok plain) × (finished_of entries ≡ plain ∷ []) × (n ≡ length plain)
+last_opens key most n label target other written entries earlier (worked, (plain, count, inl (input, good, did)), closed) same =
+    let all = closed ∙ ap (λ l. l ++ record_of.Happened (record_of.Closed other 0) ∷ []) did in
+    let last_is = last_of input input written earlier (inl (sym (ap readings_of all) ∙ same)) in
+    (plain, subst (λ (b : List ℕ). opening key most b ≡ Ok plain) last_is good.0, ap finished_of all, count)
+last_opens key most n label target other written entries earlier (worked, (plain, count, inr (header, first, last, whole, has, too, good, did)), closed) same =
+    let all = closed ∙ ap (λ l. l ++ record_of.Happened (record_of.Closed other 0) ∷ []) did in
+    let last_is = last_of last first written earlier (inr (sym (ap readings_of all) ∙ same)) in
+    (plain, subst (λ (b : List ℕ). opening key most b ≡ Ok plain) last_is good.0, ap finished_of all, count)
 
 -- what the two laws of containers say of a key
 abbrev pub Opens : List ℕ → Type 0
@@ -68,54 +73,58 @@ module _ (key : List ℕ) (opens : Opens key) (differ : Differ key) (shape : Sha
       (length-prefix_in whole (long_enough key shape prefix input seven)) same)
 
   -- what was opened of these bytes
-  opened_of : (prefix input : List ℕ) (most n : ℕ) (label : Option (List ℕ)) (target other : List ℕ) (events : List Event) (earlier : List (List ℕ)) → length prefix ≡ 7
-      → Opening key most label target other (Opened n) events → read_in events ≡ earlier ++ container key shape prefix input ∷ []
-      → (finished_in events ≡ input ∷ []) × (n ≡ length input)
-  opened_of prefix input most n label target other events earlier seven (worked, (last, plain, before, good, long, first, did), closed) same =
-      let (last_is, finished) = last_read key most label target other last plain (container key shape prefix input) before events earlier first
-      (closed ∙ ap (λ l. l ++ Closed other false ∷ []) did) same in
-      let plain_is = opened_is prefix input plain most seven (subst (λ (b : List ℕ). opening key most b ≡ Ok plain) last_is good.0) in
+  opened_of : (prefix input : List ℕ) (most n : ℕ) (label : Option (List ℕ)) (target other : List ℕ) (entries : List record_of.Entry) (earlier : List (List ℕ))
+      → length prefix ≡ 7 → AddsOpened key most label target other (Opened n) entries
+      → readings_of entries ≡ earlier ++ container key shape prefix input ∷ [] → (finished_of entries ≡ input ∷ []) × (n ≡ length input)
+  opened_of prefix input most n label target other entries earlier seven adds same =
+      let (plain, good, finished, long) = last_opens key most n label target other (container key shape prefix input) entries earlier adds same in
+      let plain_is = opened_is prefix input plain most seven good in
       (finished ∙ ap (λ (b : List ℕ). b ∷ []) plain_is, long ∙ ap length plain_is)
 
-  pub of_files : (device number bytes limit most n : ℕ) (label : Option (List ℕ)) (name other target void : List ℕ) (before after events : List Event)
-      (earlier : List (List ℕ))
-      → Sealing key shape limit device name (Sealed number bytes) void before after → Opening key most label target other (Opened n) events
-      → read_in events ≡ earlier ++ finished_in after → (finished_in events ≡ read_in before) × (n ≡ bytes)
-  of_files device number bytes limit most n label name other target void before after events earlier (input, none, long, within, begun, ended) opened same =
-      let (finished, count) = opened_of (prefix_of device number) input most n label target other events earlier refl opened
+  pub of_files : (device number bytes limit most n : ℕ) (label : Option (List ℕ)) (name other target void : List ℕ) (before after : List Event)
+      (entries : List record_of.Entry) (earlier : List (List ℕ))
+      → Sealing key shape limit device name (Sealed number bytes) void before after → AddsOpened key most label target other (Opened n) entries
+      → readings_of entries ≡ earlier ++ finished_in after → (finished_of entries ≡ read_in before) × (n ≡ bytes)
+  of_files device number bytes limit most n label name other target void before after entries earlier (input, none, long, within, begun, ended) opened same =
+      let (finished, count) = opened_of (prefix_of device number) input most n label target other entries earlier refl opened
       (same ∙ ap (λ l. earlier ++ finished_in l) ended) in
       (finished ∙ sym (ap read_in begun), count ∙ sym long)
 
   pub of_streams : (device number bytes chunks most n : ℕ) (label left : Option (List ℕ)) (failures later refusals more : Option ℕ)
-      (input taken written other target void : List ℕ) (events : List Event) (earlier : List (List ℕ))
+      (input taken written other target void : List ℕ) (entries : List record_of.Entry) (earlier : List (List ℕ))
       → WorksStream key shape chunks (Some input) left failures later (Some taken) (Some (taken ++ written)) refusals more device (Sealed number bytes) void
-      → Opening key most label target other (Opened n) events → read_in events ≡ earlier ++ written ∷ [] → (finished_in events ≡ input ∷ []) × (n ≡ bytes)
-  of_streams device number bytes chunks most n label left failures later refusals more input taken written other target void events earlier (none, works) opened same =
+      → AddsOpened key most label target other (Opened n) entries → readings_of entries ≡ earlier ++ written ∷ []
+      → (finished_of entries ≡ input ∷ []) × (n ≡ bytes)
+  of_streams device number bytes chunks most n label left failures later refusals more input taken written other target void entries earlier (none, works) opened same =
       let whole = container key shape (prefix_of device number) input in
       let written_is : written ≡ whole = append_cancel_left taken written whole works.written in
-      let (finished, count) = opened_of (prefix_of device number) input most n label target other events earlier refl opened
+      let (finished, count) = opened_of (prefix_of device number) input most n label target other entries earlier refl opened
       (same ∙ ap (λ (b : List ℕ). earlier ++ b ∷ []) written_is) in
       (finished, count ∙ sym works.answer)
 
 -- ---- runs
 
--- what a call of `open_all` opened is what its input opens to
-pub opened_to : (key : List ℕ) (call : OpenedFiles key) (file bytes plain : List ℕ) → WasOpened call.to call.events file bytes plain → (most : ℕ) × (opening key most bytes ≡ Ok plain)
+-- the entries of a call of `open_all` are those of its lines
+entries_of : (key : List ℕ) (call : OpenedFiles key) → (most : ℕ) × (label : Option (List ℕ)) × AreOpened key most label call.to call.entries
+entries_of key call =
+    let (most, label, status, old, new, added) = call.opened in
+    let (entries, adds, joined) = added.added in
+    let all : call.entries ≡ flat_map (λ (f : FileEntries). f.entries) adds.files =
+    append_cancel_left call.before.entries call.entries entries (ap (λ (r : RunRecord). r.entries) joined) ∙ adds.joined in
+    (most, label, subst (AreOpened key most label call.to) (sym all) (all_opened key most label call.to adds.files adds.each))
+
+-- what it opened is what the last reading opens to
+pub opened_to : (key : List ℕ) (call : OpenedFiles key) (file bytes plain : List ℕ) → WasOpened call.to call.entries file bytes plain → (most : ℕ) × (opening key most bytes ≡ Ok plain)
 opened_to key call file bytes plain was =
-    let (most, label, status, old, new, failures, later, worked) = call.opened in
-    let (events, done, joined) = worked.done in
-    let all : call.events ≡ work_events done.works = append_cancel_left call.before call.events events joined ∙ done.joined in
-    (most, of_works key most label call.to file bytes plain done.works done.each (subst (λ (l : List Event). WasOpened call.to l file bytes plain) all was))
+    let (most, label, are) = entries_of key call in
+    (most, opens_to key most label call.to file bytes plain call.entries are was)
 
 -- each output that it finished was opened of a file
-pub each_opened : (key : List ℕ) (call : OpenedFiles key) (output plain : List ℕ) → IsAmong (Finished output plain) call.events
-    → (file : List ℕ) × (bytes : List ℕ) × (output ≡ output_for call.to file) × WasOpened call.to call.events file bytes plain
+pub each_opened : (key : List ℕ) (call : OpenedFiles key) (output plain : List ℕ) → IsFinishedAmong output plain call.entries
+    → (file : List ℕ) × (bytes : List ℕ) × (output ≡ output_for call.to file) × WasOpened call.to call.entries file bytes plain
 each_opened key call output plain at =
-    let (most, label, status, old, new, failures, later, worked) = call.opened in
-    let (events, done, joined) = worked.done in
-    let all : call.events ≡ work_events done.works = append_cancel_left call.before call.events events joined ∙ done.joined in
-    subst (IsOpened key most label call.to output plain) (sym all)
-    (some_opened key most label call.to output plain done.works done.each (subst (IsAmong (Finished output plain)) all at))
+    let (most, label, are) = entries_of key call in
+    was_opened key most label call.to output plain call.entries are at
 
 -- what the output of a run of `seal_all` is finished with is the container of an input
 pub held_of_run : (key : List ℕ) (terms : Terms) (history : List Entry) (run : WroteFiles key terms history) (output bytes : List ℕ)
@@ -129,7 +138,7 @@ held_of_run key terms history run output bytes at =
 
 module _ (key : List ℕ) (opens : Opens key) (differ : Differ key) (terms : Terms) (history : List Entry) (call : OpenedFiles key) where
   -- what was opened of an output that a run of `seal_all` finished is what the run had read
-  pub of_run : (run : WroteFiles key terms history) (output file bytes plain : List ℕ) → IsAmong (Finished output bytes) run.events → WasOpened call.to call.events file bytes plain
+  pub of_run : (run : WroteFiles key terms history) (output file bytes plain : List ℕ) → IsAmong (Finished output bytes) run.events → WasOpened call.to call.entries file bytes plain
       → (source : List ℕ) × (output ≡ sealed_name source) × WasSealed run.events source plain bytes
   of_run run output file bytes plain at was =
       let (source, input, number, named, held, sealed) = held_of_run key terms history run output bytes at in
@@ -138,7 +147,7 @@ module _ (key : List ℕ) (opens : Opens key) (differ : Differ key) (terms : Ter
       (source, named, subst (λ (p : List ℕ). WasSealed run.events source p bytes) (sym plain_is) sealed)
 
   -- and of one of `pipe_all`
-  pub of_stream_run : (run : WroteStream key terms history) (number count : ℕ) (file plain : List ℕ) → run.outcome ≡ Sealed number count → WasOpened call.to call.events file run.bytes plain
+  pub of_stream_run : (run : WroteStream key terms history) (number count : ℕ) (file plain : List ℕ) → run.outcome ≡ Sealed number count → WasOpened call.to call.entries file run.bytes plain
       → plain ≡ run.input
   of_stream_run run number count file plain is was =
       let (chunks, left, failures, failures', refusals, refusals', status, old, new, faults, faults', stream, says) = run.sealed in

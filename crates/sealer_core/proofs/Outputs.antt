@@ -18,7 +18,7 @@ use Rattle.command_core.specs.declared.line.FileFault.TheVariants.{CannotOpen, O
 use Rattle.command_core.specs.declared.line.FileOutcome.{FileOutcome}
 use Rattle.command_core.specs.declared.line.FileOutcome.TheVariants.{Sealed, Opened, Good, Shown, Failed}
 use Rattle.command_core.specs.Lines.{FileLine}
-use Rattle.command_core.specs.Trace.{Event, Reading, Unread, Rewound, Closed, Created, Refused, Finished, Discarded, Done}
+use Rattle.command_core.specs.Trace.{Event, Reading, Unread, Rewound, Closed, Created, Refused, Finished, Discarded}
 use Rattle.sealer_core.specs.Outputs.{AreGranted, Output, IsOutput, HasWritten, times_used}
 use Rattle.sealer_core.proofs.OutputLaws.{are_apart}
 use Rattle.sealer_core.specs.Piping.{HasSealedStream, WorksStream, stream_name}
@@ -41,7 +41,6 @@ written-append (Created name ∷ one) two = written-append one two
 written-append (Refused name fault ∷ one) two = written-append one two
 written-append (Finished name bytes ∷ one) two = ap (λ l. held_in bytes ++ l) (written-append one two) ∙ sym (append_assoc (held_in bytes) (written_in one) (written_in two))
 written-append (Discarded name bytes ∷ one) two = ap (λ l. held_in bytes ++ l) (written-append one two) ∙ sym (append_assoc (held_in bytes) (written_in one) (written_in two))
-written-append (Done name failed ∷ one) two = written-append one two
 
 used-append : (n : ℕ) (one two : List Output) → times_used n (one ++ two) ≡ times_used n one + times_used n two
 used-append n one two = sum_by-append (λ (o : Output). cond (nat_eq n o.number) 1 0) one two

@@ -26,8 +26,8 @@ use Rattle.command_core.specs.declared.line.FileOutcome.TheVariants.{Sealed, Fai
 use Rattle.command_core.specs.declared.line.FileFault.{FileFault}
 use Rattle.command_core.specs.declared.line.FileFault.TheVariants.{CannotOpen, OutputExists, CannotCreate, OutOfMemory}
 use Rattle.command_core.specs.declared.line.FileFault.TheVariants.{Unsealed}
-use Rattle.command_core.specs.declared.folder.FolderFault.{FolderFault}
-use Rattle.command_core.specs.declared.folder.FolderFault.TheVariants as folder_fault
+use Rattle.folder_core.specs.declared.fault.FolderFault.{FolderFault}
+use Rattle.folder_core.specs.declared.fault.FolderFault.TheVariants as folder_fault
 use Rattle.command_core.specs.Lines.{FileLine}
 use Rattle.command_core.specs.Session.{IsNew, Session, started, times_begun}
 use Rattle.output_core.specs.Bounds.{Bound}

@@ -34,8 +34,8 @@ use Rattle.command_core.specs.declared.line.FileFault.TheVariants.{CannotOpen, O
 use Rattle.command_core.specs.declared.line.FileFault.TheVariants.{NoNumber, Unsealed}
 use Rattle.command_core.specs.declared.line.FileOutcome.{FileOutcome}
 use Rattle.command_core.specs.declared.line.FileOutcome.TheVariants.{Sealed, Opened, Good, Shown, Failed}
-use Rattle.command_core.specs.declared.folder.FolderFault.{FolderFault}
-use Rattle.command_core.specs.declared.folder.FolderFault.TheVariants as folder_fault
+use Rattle.folder_core.specs.declared.fault.FolderFault.{FolderFault}
+use Rattle.folder_core.specs.declared.fault.FolderFault.TheVariants as folder_fault
 use Rattle.command_core.specs.Lines.{FileLine}
 use Rattle.command_core.specs.Trace.{Event, Does}
 use Rattle.command_core.specs.Trace as trace
@@ -291,7 +291,6 @@ written_in (trace.Created name ∷ events) = written_in events
 written_in (trace.Refused name fault ∷ events) = written_in events
 written_in (trace.Finished name bytes ∷ events) = held_in bytes ++ written_in events
 written_in (trace.Discarded name bytes ∷ events) = held_in bytes ++ written_in events
-written_in (trace.Done name failed ∷ events) = written_in events
 
 -- Every file was processed, in order and in groups of `lanes`, the last of at most `lanes`. Their lines were printed,
 -- and what happened agrees with the groups and with the void numbers.

@@ -8,11 +8,13 @@ ghost use Rattle.container_core.specs.Container.{container, header_of};
 ghost use Rattle.container_core.specs.Opening.{opening};
 ghost use Rattle.container_core.specs.Shape.{IsShape, ShapeView, size_of};
 ghost use Rattle.command_core.specs.declared.line.FileOutcome.TheVariants.{Opened, Sealed};
+ghost use Rattle.command_core.specs.Files.{AddsOpened};
 ghost use Rattle.command_core.specs.Session.{IsSound, Session, begun_as};
 ghost use Rattle.command_core.specs.Trace.{Event, Finished};
 ghost use Rattle.command_core.specs.Unpiping.{Unpipes};
-ghost use Rattle.command_core.specs.Work.{Opening, output_for};
+ghost use Rattle.command_core.specs.Work.{output_for};
 ghost use Rattle.command_core.specs.GrantedRange.{IsHeld};
+ghost use Rattle.folder_core.specs.Record as record_of;
 ghost use Rattle.io_core.specs.Streams.{IsFront};
 ghost use Rattle.journal_core.specs.declared.entry.Entry.{Entry};
 ghost use Rattle.journal_core.specs.declared.terms.Terms.{Terms};
@@ -29,8 +31,8 @@ ghost use Rattle.reserve_core.specs.NextRun.{AreIn, IsFound};
 ghost use Rattle.sealer_core.specs.Piping.{HasSealedStream, WorksStream};
 ghost use Rattle.sealer_core.specs.Sealing.{FoldsFiles, Happened, HasSealed, Sealing, held_in};
 ghost use Rattle.sealer_core.specs.Sealing.{sealed_name, written_in};
-ghost use Rattle.sealer_core.specs.Restored.{IsAmong, OpenedFiles, WasOpened, WasSealed, WroteFiles, WroteStream};
-ghost use Rattle.sealer_core.specs.Restored.{finished_in, read_in};
+ghost use Rattle.sealer_core.specs.Restored.{IsAmong, IsFinishedAmong, OpenedFiles, WasOpened, WasSealed};
+ghost use Rattle.sealer_core.specs.Restored.{WroteFiles, WroteStream, finished_in, finished_of, read_in, readings_of};
 ghost use Rattle.sealer_core.specs.Theorem.{AreRunsOf, Begins, BeginsContainer, EachHolds, HasChunk, HeldAt, IsLeftOf};
 ghost use Rattle.sealer_core.specs.Theorem.{IsRun, Run, held_by};
 
@@ -168,18 +170,19 @@ pub fn a_killed_call_is_a_run<D: Disk + Drop>()
 /// the run finished is the container of what it had read of a file before.
 ///
 /// The last two clauses are on two lines, of any runs. Take what happened for a line `sealed` of `seal_all`, or a
-/// stream that `pipe_all` sealed, and what happened for a line `opened` of `open_all` under the same key. (Each line
-/// has its own events, as `Happened` and `AreWorked` say.) If the last reading of the input that was opened gave the
-/// output that was sealed, what was finished is, byte for byte, what had been read to be sealed.
+/// stream that `pipe_all` sealed, and what was added to the record for a line `opened` of `open_all` under the same
+/// key. (Each line has its own events, as `Happened` says, or its own entries, as `AddsFiles` says.) If the last
+/// reading of the input that was opened gave the output that was sealed, what was finished is, byte for byte, what had
+/// been read to be sealed.
 pub fn what_was_opened_was_sealed()
     ensures runs { (key : List ℕ) (terms : Terms) (history : List Entry)
         (run : WroteFiles key terms history) (call : OpenedFiles key) (output file bytes plain : List ℕ)
-        → IsAmong (Finished output bytes) run.events → WasOpened call.to call.events file bytes plain
+        → IsAmong (Finished output bytes) run.events → WasOpened call.to call.entries file bytes plain
         → (source : List ℕ) × (output ≡ sealed_name source) × WasSealed run.events source plain bytes }
     ensures piped { (key : List ℕ) (terms : Terms) (history : List Entry)
         (run : WroteStream key terms history) (call : OpenedFiles key) (number count : ℕ)
         (file plain : List ℕ)
-        → run.outcome ≡ Sealed number count → WasOpened call.to call.events file run.bytes plain
+        → run.outcome ≡ Sealed number count → WasOpened call.to call.entries file run.bytes plain
         → plain ≡ run.input }
     ensures unpiped { (key : List ℕ) (terms : Terms) (history : List Entry)
         (run : WroteFiles key terms history) (output bytes name before plain : List ℕ) (most n : ℕ)
@@ -194,9 +197,9 @@ pub fn what_was_opened_was_sealed()
         → Unpipes key most label name (Some before) (Some (before ++ plain)) (Opened n) events
         → read_in events ≡ earlier ++ run.bytes ∷ [] → plain ≡ run.input }
     ensures opened { (key : List ℕ) (call : OpenedFiles key) (output plain : List ℕ)
-        → IsAmong (Finished output plain) call.events
+        → IsFinishedAmong output plain call.entries
         → (file : List ℕ) × (bytes : List ℕ) × (output ≡ output_for call.to file)
-        × WasOpened call.to call.events file bytes plain × (most : ℕ) × (opening key most bytes ≡ Ok plain) }
+        × WasOpened call.to call.entries file bytes plain × (most : ℕ) × (opening key most bytes ≡ Ok plain) }
     ensures sealed { (key : List ℕ) (terms : Terms) (history : List Entry)
         (run : WroteFiles key terms history) (output bytes : List ℕ)
         → IsAmong (Finished output bytes) run.events
@@ -204,18 +207,21 @@ pub fn what_was_opened_was_sealed()
         × (bytes ≡ container key run.shape (prefix_of terms.range.device number) input)
         × WasSealed run.events source input bytes }
     ensures files { (key : List ℕ) (shape : ShapeView) (device number bytes limit most n : ℕ)
-        (label : Option (List ℕ)) (name other target void : List ℕ) (before after events : List Event)
-        (earlier : List (List ℕ))
+        (label : Option (List ℕ)) (name other target void : List ℕ) (before after : List Event)
+        (entries : List record_of.Entry) (earlier : List (List ℕ))
         → IsShape shape → Sealing key shape limit device name (Sealed number bytes) void before after
-        → Opening key most label target other (Opened n) events → read_in events ≡ earlier ++ finished_in after
-        → (finished_in events ≡ read_in before) × (n ≡ bytes) }
+        → AddsOpened key most label target other (Opened n) entries
+        → readings_of entries ≡ earlier ++ finished_in after
+        → (finished_of entries ≡ read_in before) × (n ≡ bytes) }
     ensures streams { (key : List ℕ) (shape : ShapeView) (device number bytes chunks most n : ℕ)
         (label left : Option (List ℕ)) (failures later refusals more : Option ℕ)
-        (input taken written other target void : List ℕ) (events : List Event) (earlier : List (List ℕ))
+        (input taken written other target void : List ℕ) (entries : List record_of.Entry)
+        (earlier : List (List ℕ))
         → IsShape shape → WorksStream key shape chunks (Some input) left failures later (Some taken)
         (Some (taken ++ written)) refusals more device (Sealed number bytes) void
-        → Opening key most label target other (Opened n) events → read_in events ≡ earlier ++ written ∷ []
-        → (finished_in events ≡ input ∷ []) × (n ≡ bytes) }
+        → AddsOpened key most label target other (Opened n) entries
+        → readings_of entries ≡ earlier ++ written ∷ []
+        → (finished_of entries ≡ input ∷ []) × (n ≡ bytes) }
 {
     containers_differ();
     opens_exactly_its_container();

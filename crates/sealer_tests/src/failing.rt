@@ -1,10 +1,11 @@
 //! A folder in memory. Its calls and those of its readers and writers are counted together, and the one with a given
 //! number fails. Other inputs and outputs of the tests share the count.
 use container_core::{Header, Key, Shape};
-use folder_memory::{MemoryFolder, MemoryReader, MemoryWriter};
+use folder_core::{Folder, OpeningFolder, Outputs, Whole};
+use folder_memory::{MemoryFolder, MemoryHandle, MemoryReader, MemoryWriter};
 use ledger_core::{Failed, Ledger, Seat, Sink, Source};
 use reserve_core::Fold;
-use sealer_core::{Folder, FolderFault, LedgerFile, OpeningFolder, Plaintext, SealingFolder};
+use sealer_core::{Folder as TracedFolder, FolderFault, LedgerFile, SealingFolder};
 use std::sync::atomic::{AtomicU64, Ordering};
 
 /// What a failing call does.
@@ -131,40 +132,32 @@ pub(crate) struct FailingWriter<'a> {
     calls: &'a Calls,
 }
 
-impl<'a> Folder for Failing<'a> {
+impl<'a> TracedFolder for Failing<'a> {
     type Reader = FailingReader<'a>;
 
     type Writer = FailingWriter<'a>;
 
     fn open(&mut self, name: &str) -> Result<FailingReader<'a>, FolderFault> {
-        let calls = self.calls;
-        if calls.fails(Act::Open) {
-            return Err(FolderFault::Failed);
-        }
-        match self.folder.open(name) {
-            Ok(reader) => Ok(FailingReader { reader, calls }),
+        match Folder::open(self, name) {
+            Ok(reader) => Ok(reader),
             Err(_) => Err(FolderFault::Failed),
         }
     }
 
     fn length(&self, reader: &FailingReader<'a>) -> Option<u64> {
-        self.folder.length(&reader.reader)
+        Folder::length(self, reader)
     }
 
-    fn can_repeat(&self, _reader: &FailingReader<'a>) -> bool {
-        !self.once
+    fn can_repeat(&self, reader: &FailingReader<'a>) -> bool {
+        Folder::can_repeat(self, reader)
     }
 
     fn again(&mut self, name: &str, reader: &mut FailingReader<'a>) -> Result<(), Failed> {
-        if self.calls.fails(Act::Read) {
-            return Err(Failed);
-        }
-        self.folder.again(name, &mut reader.reader)
+        Folder::again(self, name, reader)
     }
 
     fn close(&mut self, name: &str, reader: FailingReader<'a>) {
-        let FailingReader { reader, calls: _ } = reader;
-        self.folder.close(name, reader);
+        Folder::close(self, name, reader);
     }
 
     fn create(&mut self, name: &str) -> Result<FailingWriter<'a>, FolderFault> {
@@ -172,7 +165,7 @@ impl<'a> Folder for Failing<'a> {
         if calls.fails(Act::Create) {
             return Err(FolderFault::Failed);
         }
-        match self.folder.create(name) {
+        match TracedFolder::create(&mut self.folder, name) {
             Ok(writer) => Ok(FailingWriter { writer, calls }),
             Err(fault) => Err(fault),
         }
@@ -184,7 +177,7 @@ impl<'a> Folder for Failing<'a> {
             return Err(output);
         }
         let FailingWriter { writer, calls: _ } = output;
-        match self.folder.finish(writer) {
+        match TracedFolder::finish(&mut self.folder, writer) {
             Ok(()) => Ok(()),
             Err(writer) => Err(FailingWriter { writer, calls }),
         }
@@ -195,52 +188,112 @@ impl<'a> Folder for Failing<'a> {
             return Err(FolderFault::Failed);
         }
         let FailingWriter { writer, calls: _ } = output;
-        self.folder.discard(writer)
+        TracedFolder::discard(&mut self.folder, writer)
     }
 
     ghost sound = { λ _. ∣ tt ∣₁ };
 }
 
-// These calls aren't passed on to the folder below: it requires what was read and what began in it, and this folder
-// doesn't record that.
-impl<'a> OpeningFolder for Failing<'a> {
-    fn allow_plain(
-        &mut self,
-        _output: &mut FailingWriter<'a>,
-        _key: &Key,
-        _name: &str,
-        _plain: &Plaintext,
-    ) {}
+// The output in hand is that of the folder below.
+impl<'a> Outputs for Failing<'a> {
+    type Handle = MemoryHandle;
 
-    fn allow_checked(
-        &mut self,
-        _output: &mut FailingWriter<'a>,
-        _key: &Key,
-        _header: &Header,
-        _name: &str,
-        _reader: &FailingReader<'a>,
-    ) {}
+    fn allow_container(&mut self, output: MemoryHandle, number: u32, shape: &Shape) {
+        Outputs::allow_container(&mut self.folder, output, number, shape);
+    }
 
-    fn complete(&mut self, output: FailingWriter<'a>) -> Result<(), FailingWriter<'a>> {
-        let calls = self.calls;
-        if calls.fails(Act::Write) {
-            return Err(output);
+    fn write(&mut self, bytes: &[u8]) -> Result<usize, Failed> {
+        if self.calls.fails(Act::Write) {
+            return Err(Failed);
         }
-        let FailingWriter { writer, calls: _ } = output;
-        match self.folder.complete(writer) {
-            Ok(()) => Ok(()),
-            Err(writer) => Err(FailingWriter { writer, calls }),
+        self.folder.write(bytes)
+    }
+
+    fn finish(&mut self) -> Result<(), Failed> {
+        if self.calls.fails(Act::Write) {
+            return Err(Failed);
+        }
+        Outputs::finish(&mut self.folder)
+    }
+
+    // An output that can't be removed stays in hand, until another is.
+    fn discard(&mut self) -> Result<(), Failed> {
+        if self.calls.fails(Act::Remove) {
+            return Err(Failed);
+        }
+        Outputs::discard(&mut self.folder)
+    }
+
+    ghost sound = { λ _. ∣ (tt, tt) ∣₁ };
+}
+
+impl<'a> Folder for Failing<'a> {
+    type Reader = FailingReader<'a>;
+
+    fn open(&mut self, name: &str) -> Result<FailingReader<'a>, Failed> {
+        let calls = self.calls;
+        if calls.fails(Act::Open) {
+            return Err(Failed);
+        }
+        match Folder::open(&mut self.folder, name) {
+            Ok(reader) => Ok(FailingReader { reader, calls }),
+            Err(Failed) => Err(Failed),
         }
     }
 
-    fn give_up(&mut self, output: FailingWriter<'a>) {
-        if !self.calls.fails(Act::Remove) {
-            let FailingWriter { writer, calls: _ } = output;
-            self.folder.give_up(writer);
+    fn length(&self, reader: &FailingReader<'a>) -> Option<u64> {
+        Folder::length(&self.folder, &reader.reader)
+    }
+
+    fn can_repeat(&self, _reader: &FailingReader<'a>) -> bool {
+        !self.once
+    }
+
+    fn again(&mut self, name: &str, reader: &mut FailingReader<'a>) -> Result<(), Failed> {
+        if self.calls.fails(Act::Read) {
+            return Err(Failed);
         }
+        Folder::again(&mut self.folder, name, &mut reader.reader)
+    }
+
+    fn close(&mut self, name: &str, reader: FailingReader<'a>) {
+        let FailingReader { reader, calls: _ } = reader;
+        Folder::close(&mut self.folder, name, reader);
+    }
+
+    fn create(&mut self, name: &str) -> Result<MemoryHandle, FolderFault> {
+        if self.calls.fails(Act::Create) {
+            return Err(FolderFault::Failed);
+        }
+        Folder::create(&mut self.folder, name)
+    }
+
+    fn abandon(&mut self, output: MemoryHandle) -> Result<(), Failed> {
+        if self.calls.fails(Act::Remove) {
+            return Err(Failed);
+        }
+        self.folder.abandon(output)
     }
 }
 
+impl<'a> OpeningFolder for Failing<'a> {
+    fn allow_plain<N: Whole>(&mut self, output: MemoryHandle) {
+        self.folder.allow_plain::<N>(output);
+    }
+
+    fn allow_checked(
+        &mut self,
+        output: MemoryHandle,
+        key: &Key,
+        header: &Header,
+        reader: &FailingReader<'a>,
+    ) {
+        self.folder
+            .allow_checked(output, key, header, &reader.reader);
+    }
+}
+
+// These calls aren't passed on to the folder below: it requires what began in it, and this folder doesn't record that.
 impl<'a> SealingFolder for Failing<'a> {
     fn start<S: Fold>(&mut self, _file: &LedgerFile<S>, _key: &Key, _ledger: &Ledger) {}
 

@@ -1,16 +1,16 @@
 //! What the tests of the commands share: containers made by Python's `cryptography`, folders, ledger files and outputs
 //! in memory, and a run of a command over them.
 ghost use Rattle.std.specs.Prelude.{◌≡◌, IfSome, []};
+ghost use Rattle.folder_core.specs.Changes.{IsIdle};
 
+use command_core::{open_all, verify_all};
 use container_core::{Key, Shape, open};
+use folder_core::OpeningFolder;
 use folder_memory::MemoryFolder;
 use io_memory::{FromMemory, Schedule, ToMemory};
 use ledger_core::Device;
 use reserve_core::{Fold, Keeper, LedgerFile, Unwitnessed};
-use sealer_core::{
-    OpenOptions, OpeningFolder, Outs, SealOptions, SealingFolder, open_all, run_audit, seal_all,
-    verify_all,
-};
+use sealer_core::{OpenOptions, Outs, SealOptions, SealingFolder, run_audit, seal_all};
 use sqlite::{Connection, MemStore};
 use std::alloc::{AllocError, Global};
 use std::sync::Wait;
@@ -275,7 +275,9 @@ pub(crate) fn open_over<R: AllocGlobal + Threads + Clock + Sync, F: OpeningFolde
     options: &OpenOptions,
     verifies: bool,
     out: &mut MemoryOuts,
-) -> Option<u8> {
+) -> Option<u8>
+    requires idle { IsIdle (F.rest folder.old) }
+{
     if options.files.is_empty() || options.max_bytes > 1 << 40 {
         return None;
     }

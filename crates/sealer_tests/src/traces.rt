@@ -21,7 +21,6 @@ pub(crate) enum Seen<'a> {
     Refused(&'a str, FolderFault),
     Finished(&'a str, &'a [u8]),
     Discarded(&'a str, &'a [u8]),
-    Done(&'a str, bool),
 }
 
 fn is_seen(told: &Told, seen: Seen) -> bool {
@@ -56,10 +55,6 @@ fn is_seen(told: &Told, seen: Seen) -> bool {
         },
         Seen::Discarded(name, bytes) => match told {
             Told::Discarded(own, all) => own.as_str() == name && all.as_slice() == bytes,
-            _ => false,
-        },
-        Seen::Done(name, failed) => match told {
-            Told::Done(own, is) => own.as_str() == name && *is == failed,
             _ => false,
         },
     }
@@ -127,7 +122,6 @@ static OPENED: [(&str, Case, &[Seen]); 9] = [
             Seen::Reading("a.stm", &SECRET),
             Seen::Created("a"),
             Seen::Finished("a", b"a secret"),
-            Seen::Done("a", false),
             Seen::Closed("a.stm", false),
             Seen::Unread("m.stm"),
             Seen::Reading("c.stm", &EMPTY),
@@ -142,7 +136,6 @@ static OPENED: [(&str, Case, &[Seen]); 9] = [
             Seen::Reading("e.stm", &EMPTY),
             Seen::Created("e"),
             Seen::Finished("e", b""),
-            Seen::Done("e", false),
             Seen::Closed("e.stm", false),
         ],
     ),
@@ -173,14 +166,12 @@ static OPENED: [(&str, Case, &[Seen]); 9] = [
             Seen::Reading("a.stm", &SECRET),
             Seen::Created("a"),
             Seen::Discarded("a", b"a sec"),
-            Seen::Done("a", true),
             Seen::Closed("a.stm", false),
             Seen::Reading("b.stm", &EMPTY),
             Seen::Rewound("b.stm", false),
             Seen::Reading("b.stm", &EMPTY),
             Seen::Created("b"),
             Seen::Finished("b", b""),
-            Seen::Done("b", false),
             Seen::Closed("b.stm", false),
         ],
     ),
@@ -205,7 +196,6 @@ static OPENED: [(&str, Case, &[Seen]); 9] = [
             Seen::Reading("a.stm", &SECRET),
             Seen::Created("a"),
             Seen::Discarded("a", b"a secret"),
-            Seen::Done("a", true),
             Seen::Closed("a.stm", false),
         ],
     ),
@@ -274,7 +264,7 @@ static OPENED: [(&str, Case, &[Seen]); 9] = [
     ),
     (
         // The second reading fails in the header.
-        "an output whose second reading fails is given up, and no write failed",
+        "an output whose second reading fails is given up",
         Case {
             folder: &[("a.stm", &SECRET)],
             trouble: Trouble::Readers(Pace {
@@ -296,7 +286,6 @@ static OPENED: [(&str, Case, &[Seen]); 9] = [
             Seen::Reading("a.stm", &SECRET),
             Seen::Created("a"),
             Seen::Discarded("a", b""),
-            Seen::Done("a", false),
             Seen::Closed("a.stm", true),
         ],
     ),
@@ -320,7 +309,6 @@ static OPENED: [(&str, Case, &[Seen]); 9] = [
             Seen::Reading("a.stm", &SECRET),
             Seen::Created("other"),
             Seen::Finished("other", b"a secret"),
-            Seen::Done("other", false),
             Seen::Closed("a.stm", false),
             Seen::Reading("b.txt", &SECRET),
             Seen::Rewound("b.txt", false),

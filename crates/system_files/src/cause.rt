@@ -7,7 +7,7 @@ ghost use Rattle.std.specs.Prelude.{◌≡◌, ◌⊎◌, false, true};
 ghost use Rattle.std.specs.IoError.{error_kind};
 
 use crate::outputs::folder_and_name;
-use command_core::FolderFault;
+use folder_core::FolderFault;
 use std::alloc::Global;
 use std::fs;
 use std::fs::{File, OpenOptions};

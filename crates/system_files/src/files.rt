@@ -11,10 +11,10 @@ use crate::own::{
 };
 use crate::progress::{Named, Progress, explain_file};
 use crate::spool::FileSpool;
-use command_core::{Folder, FolderFault, OpeningFolder, Plaintext, SealingFolder};
-use container_core::{Header, Key, Shape};
+use command_core::{Folder, SealingFolder};
+use container_core::{Key, Shape};
 use either::Either;
-use folder_core::{FileReader, Spooled};
+use folder_core::{FileReader, FolderFault, Spooled};
 use io_core::Failed;
 use ledger_core::{Ledger, Seat, ToWrite};
 use reserve_core::{Fold, LedgerFile};
@@ -78,6 +78,8 @@ pub struct SystemFiles<'p, 'r, R: Files + AllocGlobal + Clock + Eprint, I: Read 
     // The name of the FILE that was opened last, if causes are printed.
     file: Option<String>,
     outputs: Outputs,
+    // The output in hand, if one is.
+    pub(crate) in_hand: Option<ToWrite<Output<R::File>>>,
     // How folders below the target's are made.
     new_folders: NewFolders,
     // How names of files, and of outputs, denote paths.
@@ -121,6 +123,7 @@ impl<'p, 'r, R: Files + AllocGlobal + Clock + Eprint, I: Read + Drop> SystemFile
             warns_of_changes: options.warns_of_changes,
             file: None,
             outputs: Outputs::new(rt),
+            in_hand: None,
             new_folders: NewFolders {
                 mode: if options.private {
                     PRIVATE_FOLDER
@@ -277,6 +280,15 @@ impl<'p, 'r, R: Files + AllocGlobal + Clock + Eprint, I: Read + Drop> SystemFile
         cause.fault()
     }
 
+    // Gives an output up, and tries to remove it.
+    pub(crate) fn give_up_output(&self, output: Output<R::File>) -> Result<(), Failed> {
+        self.explain_output(&output);
+        match outputs::discard(self.rt, output) {
+            Ok(()) => Ok(()),
+            Err(_) => Err(Failed),
+        }
+    }
+
     // Prints why this output is given up, if it couldn't be written or finished and causes are printed.
     fn explain_output(&self, output: &Output<R::File>) {
         if let Some((name, cause)) = output.why() {
@@ -403,35 +415,6 @@ impl<'p, 'r, R: Files + AllocGlobal + Clock + Eprint, I: Read + Drop> Folder
 }
 
 // The bound of an output is proof only: the contracts of its writers state it. Nothing happens at run time.
-impl<'p, 'r, R: Files + AllocGlobal + Clock + Eprint, I: Read + Drop> OpeningFolder
-    for SystemFiles<'p, 'r, R, I> {
-    fn allow_plain(
-        &mut self,
-        _output: &mut Self::Writer,
-        _key: &Key,
-        _name: &str,
-        _plain: &Plaintext,
-    ) {}
-
-    fn allow_checked(
-        &mut self,
-        _output: &mut Self::Writer,
-        _key: &Key,
-        _header: &Header,
-        _name: &str,
-        _reader: &Self::Reader,
-    ) {}
-
-    fn complete(&mut self, output: Self::Writer) -> Result<(), Self::Writer> {
-        self.finish(output)
-    }
-
-    fn give_up(&mut self, output: Self::Writer) {
-        self.explain_output(&output.0);
-        let _ = outputs::discard(self.rt, output.0);
-    }
-}
-
 impl<'p, 'r, R: Files + AllocGlobal + Clock + Eprint, I: Read + Drop> SealingFolder
     for SystemFiles<'p, 'r, R, I> {
     fn start<S: Fold>(&mut self, _file: &LedgerFile<S>, _key: &Key, _ledger: &Ledger) {}

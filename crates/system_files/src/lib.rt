@@ -9,6 +9,7 @@ pub(crate) mod blocks;
 pub mod cause;
 pub mod files;
 pub(crate) mod folders;
+pub mod hands;
 pub mod input;
 pub mod journals;
 pub mod kept;

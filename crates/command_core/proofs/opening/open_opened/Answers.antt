@@ -1,8 +1,13 @@
 use Rattle.std.proofs.Common.{sym}
-use Rattle.command_core.proofs.Openings.{closed_opening}
+use Rattle.command_core.proofs.Files.{closed_restored, idle_over}
 use Rattle.command_core.proofs.opening.open_opened.Goals as goal
 
-pub returns-clause-does : goal.returns-clause-does
-returns-clause-does g c = λ before opens. rw (sym c.in-Some.ensures.name)
-    (closed_opening _ _ _ _ _ _ _ _ _ _ _ _ _ c.open_read-outcome.ensures.events c.open_read-outcome.ensures.count
-    c.requires.count opens c.close.ensures.closed)
+pub returns-clause-adds : goal.returns-clause-adds
+returns-clause-adds g c = λ before tells. rw (sym c.in-Some.ensures.name)
+    (closed_restored _ _ _ _ _ _ _ _ _ _ _ _ _ c.open_read-outcome.ensures.adds c.open_read-outcome.ensures.read
+    c.requires.open.fresh tells c.close.ensures.closed)
+
+pub close-requires : goal.close-requires
+close-requires g c = record {
+  idle = idle_over _ _ _ _ _ _ c.requires.open.read.1 c.open_read-outcome.ensures.adds c.requires.open.idle;
+}

@@ -1,5 +1,6 @@
 use Rattle.std.proofs.Common.{ap, ◌∙◌, true}
 use Rattle.io_core.specs.Streams.{counted}
+use Rattle.command_core.specs.Putting.{fault_of_stop}
 use Rattle.command_core.proofs.Openings.{good_of, may_again, read_again, read_by_verifying}
 use Rattle.command_core.proofs.Traces.{counted_as, counted_if, counted_on, nothing}
 use Rattle.command_core.proofs.Unpipings.{lost_unpipes, opened_unpipes, refused_unpipes, same_unpipes, stopped_unpipes}
@@ -39,4 +40,4 @@ returns-in-Err-default-clause-run g c = λ before opens.
     same_unpipes _ _ _ _ _ _ _ _ _ _ _ _ _ c.allow_checked.ensures.taken c.allow_checked.ensures.failures
     (stopped_unpipes _ _ _ _ _ _ _ _ _ _ _ _ _ _ _ _ _ _ _ (good_of _ _ _ _ _ c.in-Ok.ensures.good)
     c.in-Ok.ensures.header c.write_again.ensures c.in-Err-default.is-0
-    (c.fault_again.ensures.changed, c.fault_again.ensures.broken) c.in-Ok-again.ensures.again opens)
+    ((λ is. c.fault_again.ensures ∙ ap fault_of_stop is), (λ fault is. c.fault_again.ensures ∙ ap fault_of_stop is)) c.in-Ok-again.ensures.again opens)

@@ -1,13 +1,14 @@
--- The files so far were verified.
-use Rattle.std.proofs.Common.{Option, List}
-use Rattle.command_core.specs.Trace.{Event}
-use Rattle.command_core.specs.Turns.{AreVerified, Printed, printed}
+-- The files so far were verified, and nothing is in hand.
+use Rattle.std.proofs.Common.{Option}
+use Rattle.folder_core.specs.Record.{RunRecord}
+use Rattle.folder_core.specs.Changes.{IsIdle}
+use Rattle.command_core.specs.Files.{HaveVerified}
+use Rattle.command_core.specs.Turns.{Printed, printed}
 use Rattle.command_core.proofs.verifying.verify_rest.Given as goal
 
 abbrev pub invariant-files : goal.invariant-files
-invariant-files g l =
-    (old : Printed) (told : Option (List Event))
-    → AreVerified l.context.key.now l.context.options.now l.next l.initial.status old
-    (printed (g.L.Report.taken l.initial.lines) (g.L.Report.failures l.initial.lines)) told (g.F.Folder.told l.initial.folder)
-    → AreVerified l.context.key.now l.context.options.now l.number l.status old
-    (printed (g.L.Report.taken l.lines) (g.L.Report.failures l.lines)) told (g.F.Folder.told l.folder)
+invariant-files g l = IsIdle (g.F.Outputs.rest l.folder) × ((old : Printed) (before : Option RunRecord)
+    → HaveVerified l.context.key.now l.context.options.now l.next l.initial.status old
+    (printed (g.L.Report.taken l.initial.lines) (g.L.Report.failures l.initial.lines)) before (g.F.Outputs.rest l.initial.folder)
+    → HaveVerified l.context.key.now l.context.options.now l.number l.status old
+    (printed (g.L.Report.taken l.lines) (g.L.Report.failures l.lines)) before (g.F.Outputs.rest l.folder))
