@@ -18,8 +18,8 @@ something, 2 at any other fault. COMMAND --help shows its options and what it pr
 const FILES_HELP: &str =
     "Prints a line for each FILE. Exit status: 0 if none failed, 1 if some did or --against of verify
 found something, 2 if nothing was done, or a line could not be written. Takes some megabytes of
-memory; open reads each regular FILE twice, and holds the plaintext of any other in memory. To
-standard output: sealer unpipe";
+memory; open reads each regular FILE of more than 65 KiB twice, and holds the plaintext of any other
+in memory. To standard output: sealer unpipe";
 
 /// The end of the help of `seal`.
 const SEAL_HELP: &str =

@@ -27,6 +27,9 @@ use std::rt::{Clock, Files};
 /// The name of standard input.
 pub const STREAM: &str = "-";
 
+// Most bytes of a file that isn't read again where there is no spool: a container of 64 KiB in chunks of any size has fewer.
+const SHORT: u64 = 65 << 10;
+
 /// What a run asks of the files of the system.
 #[derive(Clone, Copy)]
 pub struct FileOptions<'a> {
@@ -46,7 +49,8 @@ pub struct FileOptions<'a> {
     /// Whether the regular file that standard output is can't be opened: a run that appends to its input would damage
     /// it.
     pub refuses_output: bool,
-    /// Whether files are to be read again.
+    /// Whether files are to be read again. Without a spool a short one isn't: its plaintext is in memory until all of it
+    /// was checked, which costs less than a second reading.
     pub reads_again: bool,
     /// Whether standard input is opened by its path, as a file is: `can_reopen_input`. Else it is read as a stream.
     pub reopens_input: bool,
@@ -170,10 +174,11 @@ impl<'p, 'r, R: Files + AllocGlobal + Clock + Eprint, I: Read + Drop> SystemFile
             return Err(cause);
         }
         let named = self.named(name);
+        let is_held = self.spool.is_none() && is_short(opened.length);
         match FileInput::of_file(
             self.rt.alloc(),
             opened,
-            self.reads_again,
+            self.reads_again && !is_held,
             self.warns_of_changes,
             named,
         ) {
@@ -294,6 +299,14 @@ impl<'p, 'r, R: Files + AllocGlobal + Clock + Eprint, I: Read + Drop> SystemFile
         if let Some((name, cause)) = output.why() {
             explain_file(self.rt, self.progress, name, cause);
         }
+    }
+}
+
+// Whether a file of this length is read once where there is no spool.
+fn is_short(length: Option<u64>) -> bool {
+    match length {
+        Some(bytes) => bytes <= SHORT,
+        None => false,
     }
 }
 

@@ -16,8 +16,9 @@ use std::io::{BufReader, ErrorKind, Read, Seek, SeekFrom};
 use std::os::unix::fs::MetadataExt;
 use std::rt::{Clock, Files};
 
-/// Bytes of the buffer through which a file is read.
-const BUFFER: usize = 1 << 16;
+/// Bytes of the buffer through which a file is read. Its zeros are written anew for each file, and a call for more bytes
+/// than it has goes around it.
+const BUFFER: usize = 1 << 13;
 
 /// The path of what the system says of a process's standard input: first its position in the file.
 const INPUT_STATE: &str = "/proc/self/fdinfo/0";
