@@ -26,6 +26,8 @@ asked.add_argument("folder", type=Path)
 asked.add_argument("program", nargs="?", default=Path(__file__).resolve().parent.parent / "crates/sealer/out/sealer")
 asked = asked.parse_args()
 SMALL, MANY = 4, 10_000
+# KiB of a file that `open` reads once.
+ONCE = 64
 # How many bytes are read and written at a time where only that is timed.
 PIECE = 1 << 16
 # In KiB: the least file for which a lane is started, and the bytes for which `verify` and `open` start a worker.
@@ -124,18 +126,19 @@ def starts(name, size, count):
     return 0, 0
 
 
-def in_turn(name, parts):
+def in_turn(name, parts, size):
     """The seconds that the first thread reads and writes in turn for a command, as read_and_written took them."""
     command, how, several = (name.split() + ["1"])[:3]
     read, written = parts[int(several) if how == "--lanes" else 1]
-    return {"seal": read + written, "verify": read, "open": 2 * read + written}.get(command, read + written)
+    readings = 1 if size <= ONCE else 2
+    return {"verify": read, "open": readings * read + written}.get(command, read + written)
 
 
-def floor(name, parts, shared):
+def floor(name, parts, shared, size):
     """The least seconds that a command can take whose first thread reads and writes in turn, if SHARED seconds are spent outside the kernel.
     Lanes share only these; workers work while the first thread reads and writes."""
     _, how, several = (name.split() + ["1"])[:3]
-    several, first = int(several) if several.isdigit() else 1, in_turn(name, parts)
+    several, first = int(several) if several.isdigit() else 1, in_turn(name, parts, size)
     if how == "--lanes":
         return first + shared / several
     return max(first, (first + shared) / several)
@@ -163,12 +166,12 @@ def measured(size, count):
         alone = f"{name.split()[0]} --workers 1"
         one, _, shared = best.get(alone, best["cp -r"])
         times, threads = starts(name, size, count)
-        least = floor(name, parts, shared)
+        least = floor(name, parts, shared, size)
         with_starts = f", with threads {(least + times * costs[threads]) / one:4.2f}" if threads else ""
         floors = f"floor {least / one:4.2f}{with_starts}"
         left = ""
-        if "--lanes" in name and one > in_turn(alone, parts):
-            left = f", left {(best[name][0] - in_turn(name, parts)) / (one - in_turn(alone, parts)):4.2f}"
+        if "--lanes" in name and one > in_turn(alone, parts, size):
+            left = f", left {(best[name][0] - in_turn(name, parts, size)) / (one - in_turn(alone, parts, size)):4.2f}"
         print(f"{count:6} of {size:6} KiB  {name:20} {best[name][0]:7.3f} s  {best[name][0] / one:5.2f} of one worker, {floors}{left}  {best[name][1]:7.1f} k faults", flush=True)
     print(f"{count:6} of {size:6} KiB  in turn, by groups of 1, 2, 4: read {', '.join(f'{it[0]:.3f}' for it in parts.values())} s, written {', '.join(f'{it[1]:.3f}' for it in parts.values())} s")
     copies()

@@ -812,10 +812,12 @@ for length in 4055 4056 4057; do
     wants "path-of-$length" 0 "sealed $folder/x bytes 2" ''
     is "path-of-$length-has-its-output" test "$(ls -A "$folder" | tr '\n' ' ')" = 'x x.stm '
 done
-# Files in turn, by each engine: a longer one before shorter ones, and before these one that fails once some MB of it were read.
+# Files in turn, by each engine: a longer one before shorter ones, and before these one that fails once some MB of it were read. The first of
+# these is worth several workers too, and fits the memory of the longer one. No two chunks are alike, so that what a buffer had before is seen.
 fresh
-head -c 4500000 /dev/zero | tr '\0' 'L' > files/long
-head -c 70000 /dev/zero | tr '\0' 'm' > files/middle
+seq 1 700000 | head -c 4500000 > files/long
+seq 800000 -1 1 | head -c 4000000 > files/later
+seq 900000 -1 1 | head -c 70000 > files/middle
 echo short > files/short
 : > files/none
 mkfifo files/endless
@@ -823,32 +825,35 @@ mkdir files/kept
 for words in '--workers 1' '--workers 4' '--lanes 2' '--lanes 3'; do
     rm -f files/*.stm files/l*-wal files/l
     head -c 6000000 /dev/zero > files/endless &
-    run seal --key "$key" --ledger files/l --device 1 --max-bytes 5000000 $words files/long files/endless files/middle files/short files/none
+    run seal --key "$key" --ledger files/l --device 1 --max-bytes 5000000 $words files/long files/endless files/later files/middle files/short files/none
     wait
     unnumbered
     wants "files-in-turn $words" 1 'sealed files/long bytes 4500000
 failed files/endless: too long
+sealed files/later bytes 4000000
 sealed files/middle bytes 70000
 sealed files/short bytes 6
 sealed files/none bytes 0' ''
-    for name in long middle short none; do mv "files/$name" files/kept; done
+    for name in long later middle short none; do mv "files/$name" files/kept; done
     # a bad chunk far into a container of its own, between good ones
     cp files/long.stm files/bad.stm
     printf x | dd of=files/bad.stm bs=1 seek=2500000 conv=notrunc status=none
     for workers in 1 4; do
-        run verify --key "$key" --workers $workers files/long.stm files/bad.stm files/middle.stm files/short.stm files/none.stm
+        run verify --key "$key" --workers $workers files/long.stm files/bad.stm files/later.stm files/middle.stm files/short.stm files/none.stm
         wants "verified-in-turn $words, $workers" 1 'good files/long.stm bytes 4500000
 failed files/bad.stm: chunk 38 does not check
+good files/later.stm bytes 4000000
 good files/middle.stm bytes 70000
 good files/short.stm bytes 6
 good files/none.stm bytes 0' ''
-        run open --key "$key" --workers $workers files/long.stm files/bad.stm files/middle.stm files/short.stm files/none.stm
+        run open --key "$key" --workers $workers files/long.stm files/bad.stm files/later.stm files/middle.stm files/short.stm files/none.stm
         wants "opened-in-turn $words, $workers" 1 'opened files/long.stm bytes 4500000
 failed files/bad.stm: chunk 38 does not check
+opened files/later.stm bytes 4000000
 opened files/middle.stm bytes 70000
 opened files/short.stm bytes 6
 opened files/none.stm bytes 0' ''
-        for name in long middle short none; do
+        for name in long later middle short none; do
             is "opened-in-turn-is-what-was-sealed $words, $workers, $name" cmp -s "files/$name" "files/kept/$name"
             rm "files/$name"
         done
@@ -3018,6 +3023,16 @@ if command -v strace >/dev/null; then
     done
     is open-a-file-as-input-twice cmp -s files/named files/long
     rm files/named
+    # `open` reads a container of 65 KiB once, and one of a byte more twice
+    for bytes in 66504 66505; do
+        head -c $bytes files/long > files/limit
+        "$sealer" seal --key "$key" --ledger files/ledger --device 1 files/limit > out 2> err
+        traced_stream "$sealer" open --key "$key" --to files/named files/limit.stm
+        is "open-a-container-of-$bytes" test "$status $(stat -c %s files/limit.stm) $(grep -c 'lseek([0-9]*<[^>]*/files/limit.stm>' calls)" = \
+            "0 $((bytes + 56)) $(((bytes - 66504) * 2))"
+        is "open-gives-$bytes" cmp -s files/named files/limit
+        rm files/named files/limit files/limit.stm
+    done
     # `seal` and `verify` read once, and seek nothing
     cp numbers.plain files/unsought
     traced_stream "$sealer" seal --key "$key" --ledger files/ledger --device 1 files/unsought
