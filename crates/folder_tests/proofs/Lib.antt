@@ -1,3 +1,5 @@
 mod Files
 mod Known
+mod Sealed
+mod SealedFile
 mod Two

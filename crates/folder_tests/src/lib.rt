@@ -3,6 +3,7 @@
 //! Begin with `memory`. `openings` runs the commands that open and verify over it.
 #![tactic(auto)]
 
+pub mod context;
 pub mod engines;
 pub mod memory;
 pub mod note;
@@ -12,8 +13,11 @@ mod openings;
 mod outputs;
 pub mod pages;
 pub mod reader;
+pub mod sealing;
 
+pub use crate::context::SealContext;
 pub use crate::engines::fill_sealed;
 pub use crate::memory::{MemoryFolder, MemoryHandle};
 pub use crate::pages::Limits;
 pub use crate::reader::MemoryReader;
+pub use crate::sealing::{put_sealed, seal_file};

@@ -1,0 +1,158 @@
+-- An output that is created, filled with a container and closed: what it may hold, and what comes for it.
+use Rattle.std.proofs.Common.{◌≡◌, ◌≢◌, ◌∙◌, ◌+◌, ◌<◌, ◌≤◌, ℕ, true, false, List, [], ◌∷◌, ◌++◌, length, Option, None, Some, refl, sym, ap, ap₂, subst, append-nil, cond}
+use Rattle.std.specs.Prelude.{IfSome, option_map, slice_get}
+use Rattle.container_core.specs.Shape.{IsShape}
+use Rattle.container_core.specs.Faults.{is_failed_write}
+use Rattle.container_core.specs.declared.fault.SealFault.{SealFault}
+use Rattle.container_core.specs.declared.fault.SealFault.TheVariants as fault_of
+use Rattle.io_core.specs.Streams.{Appends, IsFront, Keeps, counted}
+use Rattle.journal_core.specs.Range.{prefix_of}
+use Rattle.output_core.specs.Bounds.{Admits, Allows}
+use Rattle.output_core.specs.Bounds as bounds
+use Rattle.sealing_core.specs.Engine.{BeginsContainer}
+use Rattle.folder_core.specs.Record.{Created, Entry, Finished, GivenUp, IsOfRange, RunRecord, begins, bound_in, bound_of, container_bound, content_at}
+use Rattle.folder_core.specs.Changes.{Becomes, IsFresh, IsIdle, MayHold, allowed, new_output, set_content, with_entry}
+use Rattle.folder_core.proofs.Entries.{change_get, get_end, times_end}
+use Rattle.command_core.specs.declared.line.FileFault.TheVariants.{Unsealed}
+use Rattle.command_core.specs.declared.line.FileOutcome.TheVariants.{Failed, Sealed}
+use Rattle.command_core.specs.Putting.{closed_output}
+use Rattle.command_core.proofs.Puts.{all_front, count_is}
+use Rattle.folder_tests.specs.Sealing.{IsFreeUnder, IsWhyGivenUp, PutsLeft, UnderNumber, container_under, content_under}
+
+-- ---- before it is in hand
+
+free_more : (u : UnderNumber) (e : Entry) (r : RunRecord) → begins u.number e ≡ false → IsFreeUnder u r → IsFreeUnder u (with_entry e r)
+free_more u e r other f = record {
+  range = f.range;
+  keyed = f.keyed;
+  device = f.device;
+  inside = f.inside;
+  free = times_end u.number r.entries e ∙ ap₂ (λ n b. n + cond {A = ℕ} b 1 0) f.free other;
+}
+
+-- the number is still free after an entry that is no output with it
+pub free_after : (u : UnderNumber) (e : Entry) (before after : Option RunRecord) → begins u.number e ≡ false
+    → IfSome before (IsFreeUnder u) → Becomes (with_entry e) before after → IfSome after (IsFreeUnder u)
+free_after u e before None other free came = tt
+free_after u e before (Some r) other free (was, known, is) =
+    subst (IsFreeUnder u) (sym is) (free_more u e was other (subst (λ o. IfSome o (IsFreeUnder u)) known free))
+
+pub may_container : (u : UnderNumber) (place : ℕ) (name : List ℕ) (before created : Option RunRecord) → IsShape u.shape → IsIdle before
+    → IfSome before (IsFreeUnder u) → IfSome before (λ r. place ≡ length r.entries)
+    → Becomes (with_entry (Created (new_output name))) before created → IfSome created (MayHold place (content_under u))
+may_container u place name before None shape idle free at new = tt
+may_container u place name before (Some r) shape idle free at (was, known, is) =
+    let more : IsFreeUnder u (with_entry (Created (new_output name)) was) =
+    free_more u (Created (new_output name)) was refl (subst (λ o. IfSome o (IsFreeUnder u)) known free) in
+    subst (MayHold place (content_under u)) (sym is) (record {
+      new = record {
+        name = name;
+        idle = subst (λ o. IfSome o (λ r. r.in_hand ≡ None)) known idle;
+        there = ap (slice_get (was.entries ++ Created (new_output name) ∷ [])) (subst (λ o. IfSome o (λ r. place ≡ length r.entries)) known at)
+            ∙ get_end was.entries (Created (new_output name));
+      };
+      allowed = (shape, subst (λ k. IsOfRange k u.number) (sym more.keyed) more.inside);
+      free = more.free;
+    })
+
+-- ---- in hand
+
+pub admits_container : (u : UnderNumber) (place : ℕ) (created ready : Option RunRecord) (taken : Option (List ℕ)) (failures : Option ℕ)
+    → IfSome created (MayHold place (content_under u)) → IfSome created (IsFreeUnder u)
+    → Becomes (allowed place (content_under u)) created ready → IsFresh ready taken failures → (plain : List ℕ)
+    → Admits (option_map bound_in ready) taken (container_under u plain)
+admits_container u place created None taken failures may free is fresh plain = tt
+admits_container u place created (Some r) taken failures may free (was, known, is) fresh plain =
+    let held : MayHold place (content_under u) was = subst (λ o. IfSome o (MayHold place (content_under u))) known may in
+    let keyed : IsFreeUnder u was = subst (λ o. IfSome o (IsFreeUnder u)) known free in
+    let bound : bound_in r ≡ bounds.Container [] u.key u.shape (prefix_of u.device u.number) =
+    ap bound_in is
+    ∙ ap (λ e. bound_of was.under (content_at e))
+    (change_get place (set_content (content_under u)) was.entries (new_output held.new.name) held.new.there)
+    ∙ ap (λ k. container_bound k u.number u.shape) keyed.keyed
+    ∙ ap (λ d. bounds.Container [] u.key u.shape (prefix_of d u.number)) keyed.device in
+    ([], fresh.0, subst (λ b. Allows b (container_under u plain)) (sym bound) (plain, ([], sym (append-nil (container_under u plain)))))
+
+-- ---- closed
+
+known_at : (P : List ℕ → Type 0) (left : Option (List ℕ)) (input : List ℕ) → left ≡ Some input → IfSome left P → P input
+known_at P left input is p = subst (λ o. IfSome o P) is p
+
+held_is : (start taken : Option (List ℕ)) (held bytes : List ℕ) → start ≡ Some [] → taken ≡ Some held → Appends start taken bytes
+    → held ≡ bytes
+held_is start taken held bytes empty some grew =
+    subst (λ o. Appends (Some []) o bytes) some (subst (λ o. Appends o taken bytes) empty grew)
+
+-- it is whole
+pub sealed_whole : (u : UnderNumber) (output : List ℕ) (left start taken : Option (List ℕ)) (zero failures : Option ℕ) (number bytes : ℕ)
+    → number ≡ u.number → IfSome left (λ input. Appends start taken (container_under u input)) → IfSome left (λ input. length input ≤ u.most)
+    → IfSome left (λ input. bytes ≡ length input) → failures ≡ counted false zero → (input : List ℕ) × (left ≡ Some input)
+    → (held : List ℕ) (n : ℕ) → start ≡ Some [] → zero ≡ Some 0 → taken ≡ Some held → failures ≡ Some n
+    → PutsLeft u output left (Sealed number bytes) (closed_output output (content_under u) held n Finished ∷ [])
+sealed_whole u output left start taken zero failures number bytes same grew within long count (input, here) held n empty nil some many = (
+  input,
+  here,
+  (
+    same,
+    known_at (λ i. bytes ≡ length i) left input here long,
+    known_at (λ i. length i ≤ u.most) left input here within,
+    ap₂ (λ b m. closed_output output (content_under u) b m Finished ∷ [])
+        (held_is start taken held (container_under u input) empty some
+        (known_at (λ i. Appends start taken (container_under u i)) left input here grew))
+        (count_is false zero failures n nil many count),
+  ),
+)
+
+-- what it holds is a prefix of the container
+front_of : (u : UnderNumber) (left start taken : Option (List ℕ)) (input held : List ℕ) → left ≡ Some input → start ≡ Some []
+    → taken ≡ Some held → BeginsContainer u.key u.shape (prefix_of u.device u.number) left start taken
+    → IsFront held (container_under u input)
+front_of u left start taken input held here empty some (plain, of, (front, is, grew)) =
+    subst (λ i. IsFront held (container_under u i)) (sym (known_at (λ i. i ≡ plain) left input here of))
+    (subst (λ b. IsFront b (container_under u plain)) (sym (held_is start taken held front empty some grew)) is)
+
+why_of : (u : UnderNumber) (left start taken : Option (List ℕ)) (fault : SealFault) (input held : List ℕ) → left ≡ Some input
+    → start ≡ Some [] → taken ≡ Some held → (fault ≡ fault_of.TooLong → IfSome left (λ i. u.most < length i))
+    → fault ≢ fault_of.TooManyChunks → (fault ≡ fault_of.OutOfMemory → Keeps start taken) → IsWhyGivenUp u.most fault input held
+why_of u left start taken fault_of.TooLong input held here empty some long few kept =
+    known_at (λ i. u.most < length i) left input here (long refl)
+why_of u left start taken fault_of.OutOfMemory input held here empty some long few kept =
+    subst (λ o. Keeps (Some []) o) some (subst (λ o. Keeps o taken) empty (kept refl))
+why_of u left start taken fault_of.Read input held here empty some long few kept = tt
+why_of u left start taken fault_of.Write input held here empty some long few kept = tt
+why_of u left start taken fault_of.TooManyChunks input held here empty some long few kept = absurd (few refl)
+
+-- it is given up
+pub sealed_part : (u : UnderNumber) (output : List ℕ) (left start taken : Option (List ℕ)) (zero failures : Option ℕ) (fault : SealFault)
+    → BeginsContainer u.key u.shape (prefix_of u.device u.number) left start taken
+    → (fault ≡ fault_of.TooLong → IfSome left (λ i. u.most < length i)) → fault ≢ fault_of.TooManyChunks
+    → (fault ≡ fault_of.OutOfMemory → Keeps start taken) → failures ≡ counted (is_failed_write fault) zero
+    → (input : List ℕ) × (left ≡ Some input)
+    → (held : List ℕ) (n : ℕ) → start ≡ Some [] → zero ≡ Some 0 → taken ≡ Some held → failures ≡ Some n
+    → PutsLeft u output left (Failed (Unsealed fault)) (closed_output output (content_under u) held n GivenUp ∷ [])
+sealed_part u output left start taken zero failures fault begun long few kept count (input, here) held n empty nil some many = (
+  input,
+  here,
+  (
+    held,
+    front_of u left start taken input held here empty some begun,
+    why_of u left start taken fault input held here empty some long few kept,
+    ap (λ m. closed_output output (content_under u) held m GivenUp ∷ [])
+        (count_is (is_failed_write fault) zero failures n nil many count),
+  ),
+)
+
+-- it was whole, and its end was refused
+pub sealed_unended : (u : UnderNumber) (output : List ℕ) (left start taken : Option (List ℕ)) (zero failures : Option ℕ)
+    → IfSome left (λ input. Appends start taken (container_under u input)) → failures ≡ counted true zero
+    → (input : List ℕ) × (left ≡ Some input)
+    → (held : List ℕ) (n : ℕ) → start ≡ Some [] → zero ≡ Some 0 → taken ≡ Some held → failures ≡ Some n
+    → PutsLeft u output left (Failed (Unsealed fault_of.Write)) (closed_output output (content_under u) held n GivenUp ∷ [])
+sealed_unended u output left start taken zero failures grew count (input, here) =
+    sealed_part u output left start taken zero failures fault_of.Write (
+      input,
+      subst (λ o. IfSome o (λ i. i ≡ input)) (sym here) refl,
+      all_front start taken (container_under u input)
+          (known_at (λ i. Appends start taken (container_under u i)) left input here grew),
+    )
+    (λ is. absurd (cc)) (λ is. cc) (λ is. absurd (cc)) count (input, here)

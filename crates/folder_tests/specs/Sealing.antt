@@ -1,0 +1,120 @@
+-- What comes in the record of a run for one file that is sealed under a number.
+use Rattle.std.specs.Prelude.{⊤, ◌≡◌, ℕ, ◌+◌, ◌<◌, ◌≤◌, Bool, false, List, [], ◌∷◌, ◌++◌, codes, length, Option, Some, IfSome}
+use Rattle.container_core.specs.Container.{container}
+use Rattle.container_core.specs.Faults.{is_failed_read, is_failed_write}
+use Rattle.container_core.specs.Shape.{ShapeView}
+use Rattle.container_core.specs.declared.fault.SealFault.{SealFault}
+use Rattle.container_core.specs.declared.fault.SealFault.TheVariants.{OutOfMemory, TooLong, TooManyChunks}
+use Rattle.io_core.specs.Streams.{IsFront}
+use Rattle.journal_core.specs.Range.{Numbers, prefix_of}
+use Rattle.journal_core.specs.declared.entry.Way.{Way}
+use Rattle.journal_core.specs.declared.entry.Way.TheVariants as way
+use Rattle.ledger_core.specs.Shared.{GrantView}
+use Rattle.folder_core.specs.declared.fault.FolderFault.{FolderFault}
+use Rattle.folder_core.specs.declared.fault.FolderFault.TheVariants as refusal
+use Rattle.folder_core.specs.Record.{Closed, Container, Content, Entry, Finished, GivenUp, Happened, Read, Refused, RunRecord}
+use Rattle.folder_core.specs.Record.{Unread, times_begun}
+use Rattle.command_core.specs.declared.line.FileFault.{FileFault}
+use Rattle.command_core.specs.declared.line.FileFault.TheVariants as line
+use Rattle.command_core.specs.declared.line.FileOutcome.{FileOutcome}
+use Rattle.command_core.specs.declared.line.FileOutcome.TheVariants.{Failed, Sealed}
+use Rattle.command_core.specs.Putting.{closed_output, once_if}
+use Rattle.folder_tests.specs.declared.context.SealContext.{SealContext}
+
+-- ---- under a number
+
+-- What a file is sealed under: a key, a shape, and a number of a device. It may have `most` bytes.
+pub record UnderNumber : Type 0 where
+  pub key : List ℕ
+  pub shape : ShapeView
+  pub device : ℕ
+  pub number : ℕ
+  pub most : ℕ
+
+-- the number of this grant
+abbrev pub under : SealContext → GrantView → UnderNumber
+under context grant = record {
+  key = context.key.now;
+  shape = context.shape.now;
+  device = grant.device;
+  number = grant.number;
+  most = context.max_bytes;
+}
+
+-- the container of a plaintext
+abbrev pub container_under : UnderNumber → List ℕ → List ℕ
+container_under u plain = container u.key u.shape (prefix_of u.device u.number) plain
+
+-- what an output may hold
+abbrev pub content_under : UnderNumber → Content
+content_under u = Container u.number u.shape
+
+-- The record is of this key and of a range of this device, the number is one of the range, and no output has it.
+pub record IsFreeUnder (u : UnderNumber) (r : RunRecord) : Type 0 where
+  pub range : Numbers
+  pub keyed : r.under ≡ Some (record { key = u.key; range = range })
+  pub device : range.device ≡ u.device
+  pub inside : (range.lo ≤ u.number) × (u.number < range.lo + range.size)
+  pub free : times_begun u.number r.entries ≡ 0
+
+-- ---- the output
+
+-- What the fault in a line says of an input, and of what its output holds. A file is bounded by bytes, so it never has
+-- too many chunks.
+abbrev pub IsWhyGivenUp : ℕ → SealFault → List ℕ → List ℕ → Type 0
+IsWhyGivenUp most TooLong input held = most < length input
+IsWhyGivenUp most TooManyChunks input held = ⊥
+IsWhyGivenUp most OutOfMemory input held = held ≡ []
+IsWhyGivenUp most _ input held = ⊤
+
+-- What comes for the output of this name, of an input that is sealed into it. It is finished with the whole container,
+-- after no failed write, and the line has the number. Or it is refused, for the cause in the line. Or it is given up with
+-- a prefix of the container: after one failed write exactly where the line says that, and an end that fails is one.
+abbrev pub PutsSealed : UnderNumber → List ℕ → List ℕ → FileOutcome → List Entry → Type 0
+PutsSealed u output input (Sealed number bytes) new = (number ≡ u.number) × (bytes ≡ length input)
+    × (length input ≤ u.most)
+    × (new ≡ closed_output output (content_under u) (container_under u input) 0 Finished ∷ [])
+PutsSealed u output input (Failed line.OutputExists) new = new ≡ Happened (Refused output refusal.Exists) ∷ []
+PutsSealed u output input (Failed line.CannotCreate) new = new ≡ Happened (Refused output refusal.Failed) ∷ []
+PutsSealed u output input (Failed (line.Unsealed fault)) new = (held : List ℕ) × IsFront held (container_under u input)
+    × IsWhyGivenUp u.most fault input held
+    × (new ≡ closed_output output (content_under u) held (once_if (is_failed_write fault)) GivenUp ∷ [])
+PutsSealed u output input _ new = ⊥
+
+-- the same, of an input that a reader has left
+abbrev pub PutsLeft : UnderNumber → List ℕ → Option (List ℕ) → FileOutcome → List Entry → Type 0
+PutsLeft u output left outcome new = (input : List ℕ) × (left ≡ Some input) × PutsSealed u output input outcome new
+
+-- What a reader has left is known, if the record is.
+abbrev pub IsKnownLeft : Option RunRecord → Option (List ℕ) → Type 0
+IsKnownLeft rest left = IfSome rest (λ _. (input : List ℕ) × (left ≡ Some input))
+
+-- why a file has no output
+abbrev pub uncreated_as : FolderFault → FileFault
+uncreated_as refusal.Exists = line.OutputExists
+uncreated_as refusal.Failed = line.CannotCreate
+
+-- how the number of such a file ends
+abbrev pub way_of : FileOutcome → Way
+way_of (Sealed number bytes) = way.Sealed
+way_of _ = way.Void
+
+-- ---- the file
+
+-- A file of this name was read, and then an output of its name and `.stm` was finished, refused or given up.
+abbrev pub AddsSealedRead : UnderNumber → List ℕ → FileOutcome → List Entry → Type 0
+AddsSealedRead u name outcome new = (input : List ℕ) × (put : List Entry)
+    × PutsSealed u (name ++ codes ".stm") input outcome put × (new ≡ Happened (Read name input) ∷ put)
+
+-- whether the outcome is that a read failed
+abbrev pub sealing_read_failed : FileOutcome → Bool
+sealing_read_failed (Failed (line.Unsealed fault)) = is_failed_read fault
+sealing_read_failed _ = false
+
+-- What comes for a file of this name that is sealed: nothing if memory was refused first. Else it can't be opened for
+-- reading, or it is closed at last: after a read had failed exactly where the line says that, and then one.
+abbrev pub AddsSealed : UnderNumber → List ℕ → FileOutcome → List Entry → Type 0
+AddsSealed u name (Failed line.OutOfMemory) new = new ≡ []
+AddsSealed u name (Failed line.CannotOpen) new = new ≡ Happened (Unread name) ∷ []
+AddsSealed u name outcome new = (worked : List Entry) × AddsSealedRead u name outcome worked
+    × (new ≡ worked ++ Happened (Closed name (once_if (sealing_read_failed outcome))) ∷ [])
