@@ -1,4 +1,5 @@
 mod Files
+mod Free
 mod Known
 mod Sealed
 mod SealedFile

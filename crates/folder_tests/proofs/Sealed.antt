@@ -1,5 +1,5 @@
 -- An output that is created, filled with a container and closed: what it may hold, and what comes for it.
-use Rattle.std.proofs.Common.{◌≡◌, ◌≢◌, ◌∙◌, ◌+◌, ◌<◌, ◌≤◌, ℕ, true, false, List, [], ◌∷◌, ◌++◌, length, Option, None, Some, refl, sym, ap, ap₂, subst, append-nil, cond}
+use Rattle.std.proofs.Common.{◌≡◌, ◌≢◌, ◌∙◌, ◌<◌, ◌≤◌, ℕ, true, false, List, [], ◌∷◌, ◌++◌, length, Option, None, Some, refl, sym, ap, ap₂, subst, append-nil}
 use Rattle.std.specs.Prelude.{IfSome, option_map, slice_get}
 use Rattle.container_core.specs.Shape.{IsShape}
 use Rattle.container_core.specs.Faults.{is_failed_write}
@@ -10,50 +10,34 @@ use Rattle.journal_core.specs.Range.{prefix_of}
 use Rattle.output_core.specs.Bounds.{Admits, Allows}
 use Rattle.output_core.specs.Bounds as bounds
 use Rattle.sealing_core.specs.Engine.{BeginsContainer}
-use Rattle.folder_core.specs.Record.{Created, Entry, Finished, GivenUp, IsOfRange, RunRecord, begins, bound_in, bound_of, container_bound, content_at}
-use Rattle.folder_core.specs.Changes.{Becomes, IsFresh, IsIdle, MayHold, allowed, new_output, set_content, with_entry}
-use Rattle.folder_core.proofs.Entries.{change_get, get_end, times_end}
+use Rattle.folder_core.specs.Record.{Created, Finished, GivenUp, IsOfRange, RunRecord, bound_in, bound_of, container_bound, content_at}
+use Rattle.folder_core.specs.Changes.{Becomes, IsFresh, IsIdle, IsNew, MayHold, allowed, new_output, set_content, with_entry}
+use Rattle.folder_core.proofs.Entries.{change_get, get_end}
 use Rattle.command_core.specs.declared.line.FileFault.TheVariants.{Unsealed}
 use Rattle.command_core.specs.declared.line.FileOutcome.TheVariants.{Failed, Sealed}
 use Rattle.command_core.specs.Putting.{closed_output}
 use Rattle.command_core.proofs.Puts.{all_front, count_is}
 use Rattle.folder_tests.specs.Sealing.{IsFreeUnder, IsWhyGivenUp, PutsLeft, UnderNumber, container_under, content_under}
+use Rattle.folder_tests.proofs.Free.{free_after}
 
 -- ---- before it is in hand
-
-free_more : (u : UnderNumber) (e : Entry) (r : RunRecord) → begins u.number e ≡ false → IsFreeUnder u r → IsFreeUnder u (with_entry e r)
-free_more u e r other f = record {
-  range = f.range;
-  keyed = f.keyed;
-  device = f.device;
-  inside = f.inside;
-  free = times_end u.number r.entries e ∙ ap₂ (λ n b. n + cond {A = ℕ} b 1 0) f.free other;
-}
-
--- the number is still free after an entry that is no output with it
-pub free_after : (u : UnderNumber) (e : Entry) (before after : Option RunRecord) → begins u.number e ≡ false
-    → IfSome before (IsFreeUnder u) → Becomes (with_entry e) before after → IfSome after (IsFreeUnder u)
-free_after u e before None other free came = tt
-free_after u e before (Some r) other free (was, known, is) =
-    subst (IsFreeUnder u) (sym is) (free_more u e was other (subst (λ o. IfSome o (IsFreeUnder u)) known free))
 
 pub may_container : (u : UnderNumber) (place : ℕ) (name : List ℕ) (before created : Option RunRecord) → IsShape u.shape → IsIdle before
     → IfSome before (IsFreeUnder u) → IfSome before (λ r. place ≡ length r.entries)
     → Becomes (with_entry (Created (new_output name))) before created → IfSome created (MayHold place (content_under u))
 may_container u place name before None shape idle free at new = tt
 may_container u place name before (Some r) shape idle free at (was, known, is) =
-    let more : IsFreeUnder u (with_entry (Created (new_output name)) was) =
-    free_more u (Created (new_output name)) was refl (subst (λ o. IfSome o (IsFreeUnder u)) known free) in
-    subst (MayHold place (content_under u)) (sym is) (record {
-      new = record {
+    let more : IsFreeUnder u r = free_after u (Created (new_output name)) before (Some r) refl free (was, known, is) in
+    record {
+      new = subst (IsNew place) (sym is) (record {
         name = name;
         idle = subst (λ o. IfSome o (λ r. r.in_hand ≡ None)) known idle;
         there = ap (slice_get (was.entries ++ Created (new_output name) ∷ [])) (subst (λ o. IfSome o (λ r. place ≡ length r.entries)) known at)
             ∙ get_end was.entries (Created (new_output name));
-      };
+      });
       allowed = (shape, subst (λ k. IsOfRange k u.number) (sym more.keyed) more.inside);
       free = more.free;
-    })
+    }
 
 -- ---- in hand
 

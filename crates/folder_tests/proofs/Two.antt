@@ -56,7 +56,7 @@ may_those (Some x) make place n content (bytes, m, is) at may =
 -- ---- the records of this test
 
 abbrev pub both : List ℕ → List ℕ → List ℕ → RunRecord
-both key a b = with_entry (Created (new_output b)) (with_entry (Created (new_output a)) (fresh key (range_of 1 3 2)))
+both key a b = with_entry (Created (new_output b)) (with_entry (Created (new_output a)) (fresh key (range_of 1 3 3)))
 
 pub may_first : (key a b : List ℕ) → MayHold 0 (Container 3 one) (both key a b)
 may_first key a b = record {
@@ -74,23 +74,23 @@ may_second key a b bytes n = record {
 
 -- ---- what the test shows before each call
 
-two_this : (key a b : List ℕ) (r0 r1 r2 : Option RunRecord) → r0 ≡ Some (fresh key (range_of 1 3 2))
+two_this : (key a b : List ℕ) (r0 r1 r2 : Option RunRecord) → r0 ≡ Some (fresh key (range_of 1 3 3))
     → Becomes (with_entry (Created (new_output a))) r0 r1 → Becomes (with_entry (Created (new_output b))) r1 r2
     → IsThis (both key a b) r2
 two_this key a b r0 r1 r2 start first second =
-    then_this (with_entry (Created (new_output b))) r1 r2 (with_entry (Created (new_output a)) (fresh key (range_of 1 3 2)))
-    (then_this (with_entry (Created (new_output a))) r0 r1 (fresh key (range_of 1 3 2))
-    (subst (IsThis (fresh key (range_of 1 3 2))) (sym start) refl) first) second
+    then_this (with_entry (Created (new_output b))) r1 r2 (with_entry (Created (new_output a)) (fresh key (range_of 1 3 3)))
+    (then_this (with_entry (Created (new_output a))) r0 r1 (fresh key (range_of 1 3 3))
+    (subst (IsThis (fresh key (range_of 1 3 3))) (sym start) refl) first) second
 
-first_at : (key a b : List ℕ) (r0 r1 r2 : Option RunRecord) (place : ℕ) → r0 ≡ Some (fresh key (range_of 1 3 2))
+first_at : (key a b : List ℕ) (r0 r1 r2 : Option RunRecord) (place : ℕ) → r0 ≡ Some (fresh key (range_of 1 3 3))
     → Becomes (with_entry (Created (new_output a))) r0 r1 → IfSome r0 (λ was. place ≡ length was.entries)
     → Becomes (with_entry (Created (new_output b))) r1 r2 → IfSome r2 (λ _. place ≡ 0)
 first_at key a b r0 r1 r2 place start first at second =
     still (place ≡ 0) (with_entry (Created (new_output b))) r1 r2
     (still (place ≡ 0) (with_entry (Created (new_output a))) r0 r1
-    (place_this r0 (fresh key (range_of 1 3 2)) place (subst (IsThis (fresh key (range_of 1 3 2))) (sym start) refl) at) first) second
+    (place_this r0 (fresh key (range_of 1 3 3)) place (subst (IsThis (fresh key (range_of 1 3 3))) (sym start) refl) at) first) second
 
-pub first_may : (key a b : List ℕ) (r0 r1 r2 : Option RunRecord) (place : ℕ) (s : ShapeView) → r0 ≡ Some (fresh key (range_of 1 3 2))
+pub first_may : (key a b : List ℕ) (r0 r1 r2 : Option RunRecord) (place : ℕ) (s : ShapeView) → r0 ≡ Some (fresh key (range_of 1 3 3))
     → Becomes (with_entry (Created (new_output a))) r0 r1 → IfSome r0 (λ was. place ≡ length was.entries)
     → Becomes (with_entry (Created (new_output b))) r1 r2 → s ≡ one → IfSome r2 (MayHold place (Container 3 s))
 first_may key a b r0 r1 r2 place s start first at second shape =
@@ -99,22 +99,22 @@ first_may key a b r0 r1 r2 place s start first at second shape =
     (first_at key a b r0 r1 r2 place start first at second) (may_first key a b))
 
 -- where it is the only one
-pub one_may : (key a : List ℕ) (r0 r1 : Option RunRecord) (place : ℕ) (s : ShapeView) → r0 ≡ Some (fresh key (range_of 1 3 2))
+pub one_may : (key a : List ℕ) (r0 r1 : Option RunRecord) (place : ℕ) (s : ShapeView) → r0 ≡ Some (fresh key (range_of 1 3 3))
     → Becomes (with_entry (Created (new_output a))) r0 r1 → IfSome r0 (λ was. place ≡ length was.entries) → s ≡ one
     → IfSome r1 (MayHold place (Container 3 s))
 one_may key a r0 r1 place s start first at shape =
-    let begun : IsThis (fresh key (range_of 1 3 2)) r0 = subst (IsThis (fresh key (range_of 1 3 2))) (sym start) refl in
+    let begun : IsThis (fresh key (range_of 1 3 3)) r0 = subst (IsThis (fresh key (range_of 1 3 3))) (sym start) refl in
     subst (λ x. IfSome r1 (MayHold place (Container 3 x))) (sym shape)
-    (may_this r1 (with_entry (Created (new_output a)) (fresh key (range_of 1 3 2))) place 0 (Container 3 one)
-    (then_this (with_entry (Created (new_output a))) r0 r1 (fresh key (range_of 1 3 2)) begun first)
-    (still (place ≡ 0) (with_entry (Created (new_output a))) r0 r1 (place_this r0 (fresh key (range_of 1 3 2)) place begun at) first)
+    (may_this r1 (with_entry (Created (new_output a)) (fresh key (range_of 1 3 3))) place 0 (Container 3 one)
+    (then_this (with_entry (Created (new_output a))) r0 r1 (fresh key (range_of 1 3 3)) begun first)
+    (still (place ≡ 0) (with_entry (Created (new_output a))) r0 r1 (place_this r0 (fresh key (range_of 1 3 3)) place begun at) first)
     (record {
       new = record { name = a; idle = refl; there = refl };
       allowed = (refl, (omega arith, omega arith));
       free = refl;
     }))
 
-hand_this : (key a b : List ℕ) (r0 r1 r2 r3 : Option RunRecord) (place : ℕ) (s : ShapeView) → r0 ≡ Some (fresh key (range_of 1 3 2))
+hand_this : (key a b : List ℕ) (r0 r1 r2 r3 : Option RunRecord) (place : ℕ) (s : ShapeView) → r0 ≡ Some (fresh key (range_of 1 3 3))
     → Becomes (with_entry (Created (new_output a))) r0 r1 → IfSome r0 (λ was. place ≡ length was.entries)
     → Becomes (with_entry (Created (new_output b))) r1 r2 → s ≡ one → Becomes (allowed place (Container 3 s)) r2 r3
     → IsThis (allowed 0 (Container 3 one) (both key a b)) r3
@@ -127,7 +127,7 @@ hand_this key a b r0 r1 r2 (Some x) place s start first at second shape taken =
     ∙ ap (λ z. allowed 0 (Container 3 z) (both key a b)) shape
 
 pub second_may : (key a b : List ℕ) (r0 r1 r2 r3 r4 r5 : Option RunRecord) (taken : Option (List ℕ)) (failures : Option ℕ) (place other : ℕ) (s : ShapeView)
-    → r0 ≡ Some (fresh key (range_of 1 3 2))
+    → r0 ≡ Some (fresh key (range_of 1 3 3))
     → Becomes (with_entry (Created (new_output a))) r0 r1 → IfSome r0 (λ was. place ≡ length was.entries)
     → Becomes (with_entry (Created (new_output b))) r1 r2 → IfSome r1 (λ was. other ≡ length was.entries)
     → s ≡ one → Becomes (allowed place (Container 3 s)) r2 r3 → r4 ≡ r3 → Closes Finished r4 taken failures r5
@@ -135,9 +135,9 @@ pub second_may : (key a b : List ℕ) (r0 r1 r2 r3 r4 r5 : Option RunRecord) (ta
 second_may key a b r0 r1 r2 r3 r4 r5 taken failures place other s start first at second also shape hand same closes =
     let this = hand_this key a b r0 r1 r2 r3 place s start first at second shape hand in
     let there : IfSome r1 (λ _. other ≡ 1) =
-    place_this r1 (with_entry (Created (new_output a)) (fresh key (range_of 1 3 2))) other
-    (then_this (with_entry (Created (new_output a))) r0 r1 (fresh key (range_of 1 3 2))
-    (subst (IsThis (fresh key (range_of 1 3 2))) (sym start) refl) first) also in
+    place_this r1 (with_entry (Created (new_output a)) (fresh key (range_of 1 3 3))) other
+    (then_this (with_entry (Created (new_output a))) r0 r1 (fresh key (range_of 1 3 3))
+    (subst (IsThis (fresh key (range_of 1 3 3))) (sym start) refl) first) also in
     let later : IfSome r3 (λ _. other ≡ 1) =
     still (other ≡ 1) (allowed place (Container 3 s)) r2 r3
     (still (other ≡ 1) (with_entry (Created (new_output b))) r1 r2 there second) hand in

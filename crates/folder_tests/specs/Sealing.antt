@@ -2,7 +2,7 @@
 use Rattle.std.specs.Prelude.{⊤, ◌≡◌, ℕ, ◌+◌, ◌<◌, ◌≤◌, Bool, false, List, [], ◌∷◌, ◌++◌, codes, length, Option, Some, IfSome}
 use Rattle.container_core.specs.Container.{container}
 use Rattle.container_core.specs.Faults.{is_failed_read, is_failed_write}
-use Rattle.container_core.specs.Shape.{ShapeView}
+use Rattle.container_core.specs.Shape.{ShapeView, one}
 use Rattle.container_core.specs.declared.fault.SealFault.{SealFault}
 use Rattle.container_core.specs.declared.fault.SealFault.TheVariants.{OutOfMemory, TooLong, TooManyChunks}
 use Rattle.io_core.specs.Streams.{IsFront}
@@ -40,6 +40,11 @@ under context grant = record {
   number = grant.number;
   most = context.max_bytes;
 }
+
+-- A number of device 1, in the first shape.
+abbrev pub of_device_one : List ℕ → ℕ → ℕ → UnderNumber
+of_device_one key number most =
+    record { key = key; shape = one; device = 1; number = number; most = most }
 
 -- the container of a plaintext
 abbrev pub container_under : UnderNumber → List ℕ → List ℕ

@@ -14,6 +14,8 @@ mod outputs;
 pub mod pages;
 pub mod reader;
 pub mod sealing;
+#[cfg(test)]
+mod sealings;
 
 pub use crate::context::SealContext;
 pub use crate::engines::fill_sealed;

@@ -1,7 +1,8 @@
 //! A container in a folder in memory is opened in each of the two ways, and verified, whichever call fails.
-ghost use Rattle.std.specs.Prelude.{◌≡◌, ◌<◌, ◌^◌, IfSome, length};
+ghost use Rattle.std.specs.Prelude.{◌≡◌, ◌<◌, ◌^◌, ℕ, IfSome, length};
 ghost use Rattle.folder_core.specs.Changes.{IsIdle};
 ghost use Rattle.folder_tests.specs.Memory.{rest_of};
+ghost use Rattle.folder_tests.specs.Sealing.{IsFreeUnder, of_device_one};
 
 use crate::memory::MemoryFolder;
 use crate::pages::Limits;
@@ -14,7 +15,7 @@ use std::thread::Threads;
 use std::time::Clock;
 
 // No call fails, and files can be read again.
-const NONE: Limits = Limits {
+pub(crate) const NONE: Limits = Limits {
     writes: u64::MAX,
     ends: u64::MAX,
     reads: u64::MAX,
@@ -34,16 +35,19 @@ const OPENED: &str = "opened a.stm bytes 9\n";
 
 const READ_FAILED: &str = "failed a.stm: read failed\n";
 
-// A folder in which `a.stm` is a container of that plaintext under the key of 7, within these limits.
-fn folder_within(alloc: Global, limits: Limits) -> Option<MemoryFolder>
+// A folder in which `a.stm` is a container of that plaintext under this key, within these limits. It has number 3, and
+// the next two are free.
+pub(crate) fn folder_within(alloc: Global, secret: [u8; 32], limits: Limits) -> Option<MemoryFolder>
     ensures idle { IfSome result (λ folder. IsIdle (rest_of folder.pages)) }
+    ensures free { (number most : ℕ) → (3 < number) × (number < 6)
+        → IfSome result (λ folder. IfSome (rest_of folder.pages) (IsFreeUnder (of_device_one secret number most))) }
 {
-    let key = Key::new([7; 32]);
+    let key = Key::new(secret);
     let shape = Shape::one();
     let Ok(sealed) = seal(alloc, &key, &shape, [0, 0, 1, 0, 0, 0, 3], PLAIN) else {
         return None;
     };
-    let mut folder = MemoryFolder::new(alloc, [7; 32], 1, 3, 2);
+    let mut folder = MemoryFolder::new(alloc, secret, 1, 3, 3);
     let Ok(container) = folder.create("a.stm") else {
         return None;
     };
@@ -60,15 +64,15 @@ fn folder_within(alloc: Global, limits: Limits) -> Option<MemoryFolder>
 
 // What is asked for.
 #[derive(Drop)]
-struct Asked<'n> {
-    files: &'n [&'n str],
-    to: Option<&'n str>,
-    secret: u8,
-    verifies: bool,
+pub(crate) struct Asked<'n> {
+    pub(crate) files: &'n [&'n str],
+    pub(crate) to: Option<&'n str>,
+    pub(crate) secret: u8,
+    pub(crate) verifies: bool,
 }
 
 // The file is opened under its own key.
-const OPEN: Asked<'static> = Asked {
+pub(crate) const OPEN: Asked<'static> = Asked {
     files: &["a.stm"],
     to: None,
     secret: 7,
@@ -91,21 +95,20 @@ fn options_of<'n>(asked: &Asked<'n>) -> OpenOptions<'n>
     }
 }
 
-// Whether a command prints this line, and no other, has the status that goes with it, and leaves an output exactly where
-// a file was opened, with the plaintext. `false` also if memory is refused.
-fn prints<T: Threads + Clock + Sync>(
+// Whether a command prints this line, and no other, and has the status that goes with it. `false` also if memory is
+// refused.
+pub(crate) fn prints_over<T: Threads + Clock + Sync>(
     rt: &T,
     alloc: Global,
     asked: &Asked<'_>,
-    limits: Limits,
+    folder: &mut MemoryFolder,
     line: &str,
-) -> bool {
+) -> bool
+    requires idle { IsIdle (rest_of folder.old.pages) }
+{
     if asked.files.is_empty() {
         return false;
     }
-    let Some(mut folder) = folder_within(alloc, limits) else {
-        return false;
-    };
     let Ok(lines) = ToMemory::new(alloc, 64, 64, Schedule::Never) else {
         return false;
     };
@@ -121,16 +124,30 @@ fn prints<T: Threads + Clock + Sync>(
     let key = Key::new([asked.secret; 32]);
     let options = options_of(asked);
     let status = if asked.verifies {
-        verify_all(rt, alloc, &key, &mut folder, &options, &mut out)
+        verify_all(rt, alloc, &key, folder, &options, &mut out)
     } else {
-        open_all(rt, alloc, &key, &mut folder, &options, &mut out)
+        open_all(rt, alloc, &key, folder, &options, &mut out)
     };
+    out.lines.bytes() == line.as_bytes() && status == u8::from(line.starts_with("failed"))
+}
+
+// The same, and whether it leaves an output exactly where a file was opened, with the plaintext.
+fn prints<T: Threads + Clock + Sync>(
+    rt: &T,
+    alloc: Global,
+    asked: &Asked<'_>,
+    limits: Limits,
+    line: &str,
+) -> bool {
+    let Some(mut folder) = folder_within(alloc, [7; 32], limits) else {
+        return false;
+    };
+    let is_printed = prints_over(rt, alloc, asked, &mut folder, line);
     let is_output = match folder.bytes("a") {
         Some(bytes) => line == OPENED && bytes.as_slice() == PLAIN,
         None => line != OPENED,
     };
-    let has_failed = line.starts_with("failed");
-    is_output && out.lines.bytes() == line.as_bytes() && status == u8::from(has_failed)
+    is_output && is_printed
 }
 
 // How many reads an opening takes. Where fewer succeed its line says that a read failed; `None` if it says something else.
@@ -165,7 +182,7 @@ fn a_file_that_is_verified_has_no_output(rt: HostRuntime) {
 // Whether one folder with a record serves three commands in turn: the file is verified, opened, and refused, as its output
 // exists by then. `false` also if memory is refused.
 fn serves_in_turn<T: Threads + Clock + Sync>(rt: &T, alloc: Global, limits: Limits) -> bool {
-    let Some(mut folder) = folder_within(alloc, limits) else {
+    let Some(mut folder) = folder_within(alloc, [7; 32], limits) else {
         return false;
     };
     let Ok(lines) = ToMemory::new(alloc, 128, 64, Schedule::Never) else {

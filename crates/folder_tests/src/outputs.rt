@@ -12,7 +12,7 @@ fn two_outputs(alloc: Global, plain: &[u8]) -> Option<bool> {
     let Ok(sealed) = seal(alloc, &key, &shape, [0, 0, 1, 0, 0, 0, 3], plain) else {
         return None;
     };
-    let mut folder = MemoryFolder::new(alloc, [7; 32], 1, 3, 2);
+    let mut folder = MemoryFolder::new(alloc, [7; 32], 1, 3, 3);
     let Ok(first) = folder.create("a.stm") else {
         return None;
     };

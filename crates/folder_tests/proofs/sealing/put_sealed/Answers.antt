@@ -4,7 +4,8 @@ use Rattle.folder_core.specs.Record.{Created}
 use Rattle.folder_core.specs.Changes.{new_output}
 use Rattle.command_core.proofs.Puts.{put_closed}
 use Rattle.folder_tests.specs.Sealing.{under}
-use Rattle.folder_tests.proofs.Sealed.{admits_container, free_after, may_container, sealed_part, sealed_unended, sealed_whole}
+use Rattle.folder_tests.proofs.Free.{free_after}
+use Rattle.folder_tests.proofs.Sealed.{admits_container, may_container, sealed_part, sealed_unended, sealed_whole}
 use Rattle.folder_tests.proofs.sealing.put_sealed.Goals as goal
 
 pub allow_container-requires : goal.allow_container-requires
