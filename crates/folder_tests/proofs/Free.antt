@@ -1,16 +1,17 @@
 -- Numbers that no output of a record has.
-use Rattle.std.proofs.Common.{◌≡◌, ◌≢◌, ◌∙◌, ◌+◌, ℕ, List, [], ◌∷◌, ◌++◌, Option, None, Some, ap, ap₂, sym, subst, cond, codes, nat_eq, ne_eqb}
+use Rattle.std.proofs.Common.{◌≡◌, ◌≢◌, ◌∙◌, ◌+◌, ℕ, List, [], ◌∷◌, ◌++◌, Option, None, Some, refl, ap, ap₂, sym, subst, cond, codes, nat_eq, ne_eqb}
 use Rattle.std.proofs.lemmas.List.Sums.{sum_by-append}
 use Rattle.std.specs.Prelude.{IfSome}
-use Rattle.folder_core.specs.Record.{Closed, Entry, Happened, Read, RunRecord, begins, times_begun}
+use Rattle.container_core.specs.Faults.{is_failed_write}
+use Rattle.folder_core.specs.Record.{Checked, Closed, Container, Content, Entry, GivenUp, Happened, Nothing, Plain, Read, RunRecord, begins, times_begun}
 use Rattle.folder_core.specs.Changes.{Becomes, with_entry}
 use Rattle.folder_core.specs.Growth.{Grows, with_entries}
 use Rattle.folder_core.proofs.Entries.{times_cons}
 use Rattle.command_core.specs.declared.line.FileFault.TheVariants as line
 use Rattle.command_core.specs.declared.line.FileOutcome.{FileOutcome}
 use Rattle.command_core.specs.declared.line.FileOutcome.TheVariants.{Failed, Sealed}
-use Rattle.command_core.specs.Putting.{once_if}
-use Rattle.folder_tests.specs.Sealing.{AddsSealed, IsFreeUnder, PutsSealed, UnderNumber, sealing_read_failed}
+use Rattle.command_core.specs.Putting.{closed_output, once_if}
+use Rattle.folder_tests.specs.Sealing.{AddsSealed, HoldsSome, IsFreeUnder, PutsSealed, UnderNumber, sealing_read_failed}
 
 -- ---- after entries without it
 
@@ -43,14 +44,21 @@ free_grows u kind (Some before) (Some after) none free (new, of, is) =
 none_other : (number other : ℕ) → number ≢ other → 0 + cond {A = ℕ} (nat_eq number other) 1 0 ≡ 0
 none_other number other apart = ap (λ b. 0 + cond {A = ℕ} b 1 0) (ne_eqb number other apart)
 
+none_held : (u : UnderNumber) (number n : ℕ) (output input : List ℕ) (content : Content) (held : List ℕ) → number ≢ u.number
+    → HoldsSome u input content held → times_begun number (closed_output output content held n GivenUp ∷ []) ≡ 0
+none_held u number n output input Nothing held apart has = refl
+none_held u number n output input (Container other shape) held apart has = none_other number other (λ is. apart (is ∙ has.0))
+none_held u number n output input (Plain key whole) held apart has = absurd has
+none_held u number n output input (Checked key header last) held apart has = absurd has
+
 none_put : (u : UnderNumber) (number : ℕ) (output input : List ℕ) (outcome : FileOutcome) (put : List Entry) → number ≢ u.number
     → PutsSealed u output input outcome put → times_begun number put ≡ 0
 none_put u number output input (Sealed n bytes) put apart (same, long, within, is) =
     ap (times_begun number) is ∙ none_other number u.number apart
 none_put u number output input (Failed line.OutputExists) put apart is = ap (times_begun number) is
 none_put u number output input (Failed line.CannotCreate) put apart is = ap (times_begun number) is
-none_put u number output input (Failed (line.Unsealed fault)) put apart (held, front, why, is) =
-    ap (times_begun number) is ∙ none_other number u.number apart
+none_put u number output input (Failed (line.Unsealed fault)) put apart (content, held, has, why, is) =
+    ap (times_begun number) is ∙ none_held u number (once_if (is_failed_write fault)) output input content held apart has
 none_put u number output input _ put apart of = absurd of
 
 none_added : (u : UnderNumber) (number : ℕ) (name : List ℕ) (outcome : FileOutcome) (new : List Entry) → number ≢ u.number

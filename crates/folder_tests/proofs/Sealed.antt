@@ -10,31 +10,37 @@ use Rattle.journal_core.specs.Range.{prefix_of}
 use Rattle.output_core.specs.Bounds.{Admits, Allows}
 use Rattle.output_core.specs.Bounds as bounds
 use Rattle.sealing_core.specs.Engine.{BeginsContainer}
-use Rattle.folder_core.specs.Record.{Created, Finished, GivenUp, IsOfRange, RunRecord, bound_in, bound_of, container_bound, content_at}
-use Rattle.folder_core.specs.Changes.{Becomes, IsFresh, IsIdle, IsNew, MayHold, allowed, new_output, set_content, with_entry}
+use Rattle.folder_core.specs.Record.{Created, Entry, Finished, GivenUp, IsOfRange, Nothing, Output, RunRecord, bound_in, bound_of, container_bound, content_at}
+use Rattle.folder_core.specs.Changes.{Becomes, IsFresh, IsIdle, IsNew, MayHold, allowed, change, closed_at, new_output, set_closed, set_content, with_entry}
+use Rattle.folder_core.specs.Growth.{Grows, with_entries}
 use Rattle.folder_core.proofs.Entries.{change_get, get_end}
 use Rattle.command_core.specs.declared.line.FileFault.TheVariants.{Unsealed}
 use Rattle.command_core.specs.declared.line.FileOutcome.TheVariants.{Failed, Sealed}
 use Rattle.command_core.specs.Putting.{closed_output}
 use Rattle.command_core.proofs.Puts.{all_front, count_is}
-use Rattle.folder_tests.specs.Sealing.{IsFreeUnder, IsWhyGivenUp, PutsLeft, UnderNumber, container_under, content_under}
+use Rattle.folder_tests.specs.Sealing.{IsFreeUnder, IsKnownLeft, IsLongerThan, IsWhyGivenUp, PutsLeft, UnderNumber, container_under, content_under}
 use Rattle.folder_tests.proofs.Free.{free_after}
 
 -- ---- before it is in hand
+
+pub new_at : (place : ℕ) (name : List ℕ) (before created : Option RunRecord) → IsIdle before → IfSome before (λ r. place ≡ length r.entries)
+    → Becomes (with_entry (Created (new_output name))) before created → IfSome created (IsNew place)
+new_at place name before None idle at new = tt
+new_at place name before (Some r) idle at (was, known, is) = subst (IsNew place) (sym is) (record {
+  name = name;
+  idle = subst (λ o. IfSome o (λ r. r.in_hand ≡ None)) known idle;
+  there = ap (slice_get (was.entries ++ Created (new_output name) ∷ [])) (subst (λ o. IfSome o (λ r. place ≡ length r.entries)) known at)
+      ∙ get_end was.entries (Created (new_output name));
+})
 
 pub may_container : (u : UnderNumber) (place : ℕ) (name : List ℕ) (before created : Option RunRecord) → IsShape u.shape → IsIdle before
     → IfSome before (IsFreeUnder u) → IfSome before (λ r. place ≡ length r.entries)
     → Becomes (with_entry (Created (new_output name))) before created → IfSome created (MayHold place (content_under u))
 may_container u place name before None shape idle free at new = tt
-may_container u place name before (Some r) shape idle free at (was, known, is) =
-    let more : IsFreeUnder u r = free_after u (Created (new_output name)) before (Some r) refl free (was, known, is) in
+may_container u place name before (Some r) shape idle free at new =
+    let more : IsFreeUnder u r = free_after u (Created (new_output name)) before (Some r) refl free new in
     record {
-      new = subst (IsNew place) (sym is) (record {
-        name = name;
-        idle = subst (λ o. IfSome o (λ r. r.in_hand ≡ None)) known idle;
-        there = ap (slice_get (was.entries ++ Created (new_output name) ∷ [])) (subst (λ o. IfSome o (λ r. place ≡ length r.entries)) known at)
-            ∙ get_end was.entries (Created (new_output name));
-      });
+      new = new_at place name before (Some r) idle at new;
       allowed = (shape, subst (λ k. IsOfRange k u.number) (sym more.keyed) more.inside);
       free = more.free;
     }
@@ -97,13 +103,14 @@ front_of u left start taken input held here empty some (plain, of, (front, is, g
 
 why_of : (u : UnderNumber) (left start taken : Option (List ℕ)) (fault : SealFault) (input held : List ℕ) → left ≡ Some input
     → start ≡ Some [] → taken ≡ Some held → (fault ≡ fault_of.TooLong → IfSome left (λ i. u.most < length i))
-    → fault ≢ fault_of.TooManyChunks → (fault ≡ fault_of.OutOfMemory → Keeps start taken) → IsWhyGivenUp u.most fault input held
+    → fault ≢ fault_of.TooManyChunks → (fault ≡ fault_of.OutOfMemory → Keeps start taken)
+    → IsWhyGivenUp u.most fault input (content_under u) held
 why_of u left start taken fault_of.TooLong input held here empty some long few kept =
     known_at (λ i. u.most < length i) left input here (long refl)
 why_of u left start taken fault_of.OutOfMemory input held here empty some long few kept =
     subst (λ o. Keeps (Some []) o) some (subst (λ o. Keeps o taken) empty (kept refl))
 why_of u left start taken fault_of.Read input held here empty some long few kept = tt
-why_of u left start taken fault_of.Write input held here empty some long few kept = tt
+why_of u left start taken fault_of.Write input held here empty some long few kept = λ is. cc
 why_of u left start taken fault_of.TooManyChunks input held here empty some long few kept = absurd (few refl)
 
 -- it is given up
@@ -118,8 +125,9 @@ sealed_part u output left start taken zero failures fault begun long few kept co
   input,
   here,
   (
+    content_under u,
     held,
-    front_of u left start taken input held here empty some begun,
+    (refl, refl, front_of u left start taken input held here empty some begun),
     why_of u left start taken fault input held here empty some long few kept,
     ap (λ m. closed_output output (content_under u) held m GivenUp ∷ [])
         (count_is (is_failed_write fault) zero failures n nil many count),
@@ -140,3 +148,45 @@ sealed_unended u output left start taken zero failures grew count (input, here) 
           (known_at (λ i. Appends start taken (container_under u i)) left input here grew),
     )
     (λ is. absurd (cc)) (λ is. cc) (λ is. absurd (cc)) count (input, here)
+
+-- it is given up before it was in hand
+
+change_last : (f : Output → Output) (entries : List Entry) (output : Output)
+    → change (length entries) f (entries ++ Created output ∷ []) ≡ entries ++ Created (f output) ∷ []
+change_last f [] output = refl
+change_last f (entry ∷ entries) output = ap (λ l. entry ∷ l) (change_last f entries output)
+
+pub given_up_unused : (u : UnderNumber) (output : List ℕ) (left : Option (List ℕ)) (place : ℕ) (before created after : Option RunRecord)
+    → IsIdle before → IfSome before (λ r. place ≡ length r.entries) → Becomes (with_entry (Created (new_output output))) before created
+    → Becomes (closed_at place GivenUp [] 0) created after → IsKnownLeft before left → IsLongerThan u.most created left
+    → Grows (PutsLeft u output left (Failed (Unsealed fault_of.TooLong))) before after
+given_up_unused u output left place before created None idle at new ends known long = tt
+given_up_unused u output left place before created (Some r) idle at new (second, second_is, last) known long =
+    let (first, first_is, begun) = subst (Becomes (with_entry (Created (new_output output))) before) second_is new in
+    let empty : first.in_hand ≡ None = subst (λ o. IfSome o (λ r. r.in_hand ≡ None)) first_is idle in
+    let there : place ≡ length first.entries = subst (λ o. IfSome o (λ r. place ≡ length r.entries)) first_is at in
+    let (input, here) = subst (λ o. IsKnownLeft o left) first_is known in
+    let entry : Entry = closed_output output Nothing [] 0 GivenUp in
+    let all : r ≡ with_entries (entry ∷ []) first =
+    last ∙ ap (closed_at place GivenUp [] 0) begun
+    ∙ ap (λ p. record first {
+      entries = change p (set_closed GivenUp [] 0) (first.entries ++ Created (new_output output) ∷ []);
+      in_hand = None;
+    }) there
+    ∙ ap (λ l. record first { entries = l; in_hand = None }) (change_last (set_closed GivenUp [] 0) first.entries (new_output output))
+    ∙ ap (λ h. record first { entries = first.entries ++ entry ∷ []; in_hand = h }) (sym empty) in
+    subst (λ o. Grows (PutsLeft u output left (Failed (Unsealed fault_of.TooLong))) o (Some r)) (sym first_is) (
+      entry ∷ [],
+      (
+        input,
+        here,
+        (
+          Nothing,
+          [],
+          refl,
+          known_at (λ i. u.most < length i) left input here (subst (λ o. IsLongerThan u.most o left) second_is long),
+          refl,
+        ),
+      ),
+      all,
+    )

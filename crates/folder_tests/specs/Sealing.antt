@@ -1,10 +1,10 @@
 -- What comes in the record of a run for one file that is sealed under a number.
-use Rattle.std.specs.Prelude.{⊤, ◌≡◌, ℕ, ◌+◌, ◌<◌, ◌≤◌, Bool, false, List, [], ◌∷◌, ◌++◌, codes, length, Option, Some, IfSome}
+use Rattle.std.specs.Prelude.{⊤, ◌≡◌, ◌≢◌, ℕ, ◌+◌, ◌<◌, ◌≤◌, Bool, false, List, [], ◌∷◌, ◌++◌, codes, length, Option, Some, IfSome}
 use Rattle.container_core.specs.Container.{container}
 use Rattle.container_core.specs.Faults.{is_failed_read, is_failed_write}
 use Rattle.container_core.specs.Shape.{ShapeView, one}
 use Rattle.container_core.specs.declared.fault.SealFault.{SealFault}
-use Rattle.container_core.specs.declared.fault.SealFault.TheVariants.{OutOfMemory, TooLong, TooManyChunks}
+use Rattle.container_core.specs.declared.fault.SealFault.TheVariants.{OutOfMemory, Read, TooLong, TooManyChunks, Write}
 use Rattle.io_core.specs.Streams.{IsFront}
 use Rattle.journal_core.specs.Range.{Numbers, prefix_of}
 use Rattle.journal_core.specs.declared.entry.Way.{Way}
@@ -12,8 +12,9 @@ use Rattle.journal_core.specs.declared.entry.Way.TheVariants as way
 use Rattle.ledger_core.specs.Shared.{GrantView}
 use Rattle.folder_core.specs.declared.fault.FolderFault.{FolderFault}
 use Rattle.folder_core.specs.declared.fault.FolderFault.TheVariants as refusal
-use Rattle.folder_core.specs.Record.{Closed, Container, Content, Entry, Finished, GivenUp, Happened, Read, Refused, RunRecord}
-use Rattle.folder_core.specs.Record.{Unread, times_begun}
+use Rattle.folder_core.specs.Record.{Closed, Container, Content, Entry, Finished, GivenUp, Happened, Nothing, Refused}
+use Rattle.folder_core.specs.Record.{RunRecord, Unread, times_begun}
+use Rattle.folder_core.specs.Record as event
 use Rattle.command_core.specs.declared.line.FileFault.{FileFault}
 use Rattle.command_core.specs.declared.line.FileFault.TheVariants as line
 use Rattle.command_core.specs.declared.line.FileOutcome.{FileOutcome}
@@ -64,13 +65,21 @@ pub record IsFreeUnder (u : UnderNumber) (r : RunRecord) : Type 0 where
 
 -- ---- the output
 
--- What the fault in a line says of an input, and of what its output holds. A file is bounded by bytes, so it never has
--- too many chunks.
-abbrev pub IsWhyGivenUp : ℕ → SealFault → List ℕ → List ℕ → Type 0
-IsWhyGivenUp most TooLong input held = most < length input
-IsWhyGivenUp most TooManyChunks input held = ⊥
-IsWhyGivenUp most OutOfMemory input held = held ≡ []
-IsWhyGivenUp most _ input held = ⊤
+-- What an output that was given up may hold, and held: nothing if it was never in hand, else a prefix of the container.
+abbrev pub HoldsSome : UnderNumber → List ℕ → Content → List ℕ → Type 0
+HoldsSome u input Nothing held = held ≡ []
+HoldsSome u input (Container number shape) held =
+    (number ≡ u.number) × (shape ≡ u.shape) × IsFront held (container_under u input)
+HoldsSome u input _ held = ⊥
+
+-- What the fault in a line says of an input, and of what its output may hold, and held. A write can fail only under the
+-- number. A file is bounded by bytes, so it never has too many chunks.
+abbrev pub IsWhyGivenUp : ℕ → SealFault → List ℕ → Content → List ℕ → Type 0
+IsWhyGivenUp most TooLong input content held = most < length input
+IsWhyGivenUp most OutOfMemory input content held = held ≡ []
+IsWhyGivenUp most Read input content held = ⊤
+IsWhyGivenUp most Write input content held = content ≢ Nothing
+IsWhyGivenUp most TooManyChunks input content held = ⊥
 
 -- What comes for the output of this name, of an input that is sealed into it. It is finished with the whole container,
 -- after no failed write, and the line has the number. Or it is refused, for the cause in the line. Or it is given up with
@@ -81,14 +90,18 @@ PutsSealed u output input (Sealed number bytes) new = (number ≡ u.number) × (
     × (new ≡ closed_output output (content_under u) (container_under u input) 0 Finished ∷ [])
 PutsSealed u output input (Failed line.OutputExists) new = new ≡ Happened (Refused output refusal.Exists) ∷ []
 PutsSealed u output input (Failed line.CannotCreate) new = new ≡ Happened (Refused output refusal.Failed) ∷ []
-PutsSealed u output input (Failed (line.Unsealed fault)) new = (held : List ℕ) × IsFront held (container_under u input)
-    × IsWhyGivenUp u.most fault input held
-    × (new ≡ closed_output output (content_under u) held (once_if (is_failed_write fault)) GivenUp ∷ [])
+PutsSealed u output input (Failed (line.Unsealed fault)) new = (content : Content) × (held : List ℕ)
+    × HoldsSome u input content held × IsWhyGivenUp u.most fault input content held
+    × (new ≡ closed_output output content held (once_if (is_failed_write fault)) GivenUp ∷ [])
 PutsSealed u output input _ new = ⊥
 
 -- the same, of an input that a reader has left
 abbrev pub PutsLeft : UnderNumber → List ℕ → Option (List ℕ) → FileOutcome → List Entry → Type 0
 PutsLeft u output left outcome new = (input : List ℕ) × (left ≡ Some input) × PutsSealed u output input outcome new
+
+-- What a reader has left is more than `most` bytes, as far as it is known.
+abbrev pub IsLongerThan : ℕ → Option RunRecord → Option (List ℕ) → Type 0
+IsLongerThan most rest left = IfSome rest (λ _. IfSome left (λ input. most < length input))
 
 -- What a reader has left is known, if the record is.
 abbrev pub IsKnownLeft : Option RunRecord → Option (List ℕ) → Type 0
@@ -109,7 +122,7 @@ way_of _ = way.Void
 -- A file of this name was read, and then an output of its name and `.stm` was finished, refused or given up.
 abbrev pub AddsSealedRead : UnderNumber → List ℕ → FileOutcome → List Entry → Type 0
 AddsSealedRead u name outcome new = (input : List ℕ) × (put : List Entry)
-    × PutsSealed u (name ++ codes ".stm") input outcome put × (new ≡ Happened (Read name input) ∷ put)
+    × PutsSealed u (name ++ codes ".stm") input outcome put × (new ≡ Happened (event.Read name input) ∷ put)
 
 -- whether the outcome is that a read failed
 abbrev pub sealing_read_failed : FileOutcome → Bool

@@ -2,7 +2,7 @@
 //! what came for it.
 //!
 //! An engine knows nothing of the record. So `container_named` names what stays the same while it writes.
-ghost use Rattle.std.specs.Prelude.{◌≡◌, ◌≢◌, ℕ, List, Err, IfSome, OnErr, OnOk, option_map};
+ghost use Rattle.std.specs.Prelude.{◌≡◌, ◌≢◌, ℕ, List, Err, IfSome, OnErr, OnOk, option_map, true};
 ghost use Rattle.container_core.specs.Shape.{IsShape};
 ghost use Rattle.io_core.specs.Streams.{counted};
 ghost use Rattle.journal_core.specs.Range.{prefix_of};
@@ -13,8 +13,8 @@ ghost use Rattle.sealing_core.specs.Engine.{HasReadPlain, HasWrittenRounds};
 ghost use Rattle.folder_core.specs.Record.{bound_in};
 ghost use Rattle.folder_core.specs.Changes.{IsIdle};
 ghost use Rattle.folder_core.specs.Growth.{Grows};
-ghost use Rattle.folder_tests.specs.Sealing.{AddsSealed, IsFreeUnder, IsKnownLeft, PutsLeft, container_under};
-ghost use Rattle.folder_tests.specs.Sealing.{sealing_read_failed, uncreated_as, under, way_of};
+ghost use Rattle.folder_tests.specs.Sealing.{AddsSealed, IsFreeUnder, IsKnownLeft, IsLongerThan, PutsLeft};
+ghost use Rattle.folder_tests.specs.Sealing.{container_under, sealing_read_failed, uncreated_as, under, way_of};
 
 use crate::context::SealContext;
 use claim_core::Free;
@@ -108,9 +108,19 @@ fn fault_of_create(fault: FolderFault) -> FileFault
     }
 }
 
-/// Creates an output and seals an input into it, under a number that no output has. Then finishes it. Where the sealing
-/// fails, or the output's end, it is given up. The number comes back spent: sealed where the output was finished, else
-/// void.
+// Whether a file is known to have more bytes than this.
+fn is_too_long<F: Folder>(folder: &F, reader: &F::Reader, max_bytes: u64) -> bool
+    ensures { result ≡ true → IsLongerThan max_bytes (F.rest folder.now) (F.Reader.left reader.now) }
+{
+    match folder.length(reader) {
+        Some(bytes) => bytes > max_bytes,
+        None => false,
+    }
+}
+
+/// Creates an output and seals an input into it, under a number that no output has. Then finishes it. Of an input that is
+/// known to be too long nothing is read. There, and where the sealing fails, or the output's end, it is given up. The
+/// number comes back spent: sealed where the output was finished, else void.
 pub fn put_sealed<T: Threads + Wait + Sync, F: Folder>(
     rt: &T,
     context: &SealContext<'_>,
@@ -134,6 +144,11 @@ pub fn put_sealed<T: Threads + Wait + Sync, F: Folder>(
             return (FileOutcome::Failed(fault_of_create(fault)), grant.waste());
         }
     };
+    if is_too_long(folder, reader, context.max_bytes) {
+        let _ = folder.abandon(handle);
+        let fault = FileFault::Unsealed(SealFault::TooLong);
+        return (FileOutcome::Failed(fault), grant.waste());
+    }
     let number = grant.number();
     folder.allow_container(handle, number, context.shape);
     let (sealed, spent) = fill_container(rt, context, grant, reader, folder);

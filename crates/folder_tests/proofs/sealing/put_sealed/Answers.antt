@@ -5,8 +5,18 @@ use Rattle.folder_core.specs.Changes.{new_output}
 use Rattle.command_core.proofs.Puts.{put_closed}
 use Rattle.folder_tests.specs.Sealing.{under}
 use Rattle.folder_tests.proofs.Free.{free_after}
-use Rattle.folder_tests.proofs.Sealed.{admits_container, may_container, sealed_part, sealed_unended, sealed_whole}
+use Rattle.folder_tests.proofs.Sealed.{admits_container, given_up_unused, may_container, new_at, sealed_part, sealed_unended, sealed_whole}
 use Rattle.folder_tests.proofs.sealing.put_sealed.Goals as goal
+
+pub abandon-requires : goal.abandon-requires
+abandon-requires g c = record {
+  new = new_at _ _ _ _ c.requires.idle c.in-Ok.ensures.place c.in-Ok.ensures.created;
+}
+
+pub returns-then-is_too_long-clause-put : goal.returns-then-is_too_long-clause-put
+returns-then-is_too_long-clause-put g c =
+    given_up_unused (under c.args.context.now c.args.grant) _ _ _ _ _ _ c.requires.idle c.in-Ok.ensures.place c.in-Ok.ensures.created
+    c.abandon.ensures.abandoned c.requires.known (c.is_too_long.ensures c.if-is_too_long.true)
 
 pub allow_container-requires : goal.allow_container-requires
 allow_container-requires g c = record {
