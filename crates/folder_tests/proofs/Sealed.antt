@@ -1,6 +1,6 @@
 -- An output that is created, filled with a container and closed: what it may hold, and what comes for it.
 use Rattle.std.proofs.Common.{◌≡◌, ◌≢◌, ◌∙◌, ◌<◌, ◌≤◌, ℕ, true, false, List, [], ◌∷◌, ◌++◌, length, Option, None, Some, refl, sym, ap, ap₂, subst, append-nil}
-use Rattle.std.specs.Prelude.{IfSome, option_map, slice_get}
+use Rattle.std.specs.Prelude.{IfSome, Result, Ok, Err, option_map, slice_get}
 use Rattle.container_core.specs.Shape.{IsShape}
 use Rattle.container_core.specs.Faults.{is_failed_write}
 use Rattle.container_core.specs.declared.fault.SealFault.{SealFault}
@@ -9,16 +9,17 @@ use Rattle.io_core.specs.Streams.{Appends, IsFront, Keeps, counted}
 use Rattle.journal_core.specs.Range.{prefix_of}
 use Rattle.output_core.specs.Bounds.{Admits, Allows}
 use Rattle.output_core.specs.Bounds as bounds
-use Rattle.sealing_core.specs.Engine.{BeginsContainer}
-use Rattle.folder_core.specs.Record.{Created, Entry, Finished, GivenUp, IsOfRange, Nothing, Output, RunRecord, bound_in, bound_of, container_bound, content_at}
-use Rattle.folder_core.specs.Changes.{Becomes, IsFresh, IsIdle, IsNew, MayHold, allowed, change, closed_at, new_output, set_closed, set_content, with_entry}
+use Rattle.sealing_core.specs.Engine.{BeginsContainer, HasReadPlain, HasWrittenRounds}
+use Rattle.folder_core.specs.Record.{Created, Entry, Finished, GivenUp, IsOfRange, Nothing, Output, RunRecord, State, bound_in, bound_of, container_bound, content_at}
+use Rattle.folder_core.specs.Changes.{Becomes, Closes, IsFresh, IsIdle, IsNew, MayHold, allowed, change, closed_at, new_output, set_closed, set_content, with_entry}
 use Rattle.folder_core.specs.Growth.{Grows, with_entries}
 use Rattle.folder_core.proofs.Entries.{change_get, get_end}
 use Rattle.command_core.specs.declared.line.FileFault.TheVariants.{Unsealed}
+use Rattle.command_core.specs.declared.line.FileOutcome.{FileOutcome}
 use Rattle.command_core.specs.declared.line.FileOutcome.TheVariants.{Failed, Sealed}
 use Rattle.command_core.specs.Putting.{closed_output}
-use Rattle.command_core.proofs.Puts.{all_front, count_is}
-use Rattle.folder_tests.specs.Sealing.{IsFreeUnder, IsKnownLeft, IsLongerThan, IsWhyGivenUp, PutsLeft, UnderNumber, container_under, content_under}
+use Rattle.command_core.proofs.Puts.{all_front, count_is, put_closed}
+use Rattle.folder_tests.specs.Sealing.{ClosesBy, EndsBy, IsFreeUnder, IsKnownLeft, IsLongerThan, IsWhyGivenUp, PutsLeft, UnderNumber, container_under, content_under}
 use Rattle.folder_tests.proofs.Free.{free_after}
 
 -- ---- before it is in hand
@@ -74,7 +75,7 @@ held_is start taken held bytes empty some grew =
     subst (λ o. Appends (Some []) o bytes) some (subst (λ o. Appends o taken bytes) empty grew)
 
 -- it is whole
-pub sealed_whole : (u : UnderNumber) (output : List ℕ) (left start taken : Option (List ℕ)) (zero failures : Option ℕ) (number bytes : ℕ)
+sealed_whole : (u : UnderNumber) (output : List ℕ) (left start taken : Option (List ℕ)) (zero failures : Option ℕ) (number bytes : ℕ)
     → number ≡ u.number → IfSome left (λ input. Appends start taken (container_under u input)) → IfSome left (λ input. length input ≤ u.most)
     → IfSome left (λ input. bytes ≡ length input) → failures ≡ counted false zero → (input : List ℕ) × (left ≡ Some input)
     → (held : List ℕ) (n : ℕ) → start ≡ Some [] → zero ≡ Some 0 → taken ≡ Some held → failures ≡ Some n
@@ -114,7 +115,7 @@ why_of u left start taken fault_of.Write input held here empty some long few kep
 why_of u left start taken fault_of.TooManyChunks input held here empty some long few kept = absurd (few refl)
 
 -- it is given up
-pub sealed_part : (u : UnderNumber) (output : List ℕ) (left start taken : Option (List ℕ)) (zero failures : Option ℕ) (fault : SealFault)
+sealed_part : (u : UnderNumber) (output : List ℕ) (left start taken : Option (List ℕ)) (zero failures : Option ℕ) (fault : SealFault)
     → BeginsContainer u.key u.shape (prefix_of u.device u.number) left start taken
     → (fault ≡ fault_of.TooLong → IfSome left (λ i. u.most < length i)) → fault ≢ fault_of.TooManyChunks
     → (fault ≡ fault_of.OutOfMemory → Keeps start taken) → failures ≡ counted (is_failed_write fault) zero
@@ -135,7 +136,7 @@ sealed_part u output left start taken zero failures fault begun long few kept co
 )
 
 -- it was whole, and its end was refused
-pub sealed_unended : (u : UnderNumber) (output : List ℕ) (left start taken : Option (List ℕ)) (zero failures : Option ℕ)
+sealed_unended : (u : UnderNumber) (output : List ℕ) (left start taken : Option (List ℕ)) (zero failures : Option ℕ)
     → IfSome left (λ input. Appends start taken (container_under u input)) → failures ≡ counted true zero
     → (input : List ℕ) × (left ≡ Some input)
     → (held : List ℕ) (n : ℕ) → start ≡ Some [] → zero ≡ Some 0 → taken ≡ Some held → failures ≡ Some n
@@ -148,6 +149,40 @@ sealed_unended u output left start taken zero failures grew count (input, here) 
           (known_at (λ i. Appends start taken (container_under u i)) left input here grew),
     )
     (λ is. absurd (cc)) (λ is. cc) (λ is. absurd (cc)) count (input, here)
+
+-- by how the sealing ended
+module _ (u : UnderNumber) (output : List ℕ) (window place : ℕ) (left left' start taken : Option (List ℕ))
+    (zero failures reads reads' : Option ℕ) (before created ready filled after : Option RunRecord) (known : IsKnownLeft before left)
+    (idle : IsIdle before) (at : IfSome before (λ r. place ≡ length r.entries))
+    (new : Becomes (with_entry (Created (new_output output))) before created)
+    (may : Becomes (allowed place (content_under u)) created ready) (fresh : IsFresh ready start zero) (same : filled ≡ ready)
+  where
+    closed_as : (outcome : FileOutcome) (state : State) (failures : Option ℕ) → Closes state filled taken failures after
+        → ((input : List ℕ) × (left ≡ Some input) → (held : List ℕ) (n : ℕ) → start ≡ Some [] → zero ≡ Some 0 → taken ≡ Some held
+        → failures ≡ Some n → PutsLeft u output left outcome (closed_output output (content_under u) held n state ∷ []))
+        → Grows (PutsLeft u output left outcome) before after
+    closed_as outcome state failures closes makes =
+        put_closed (λ _. (input : List ℕ) × (left ≡ Some input)) (PutsLeft u output left outcome) output (content_under u) state place start
+        taken zero failures before created ready filled after idle at new may fresh same closes known (λ was. makes)
+
+    pub sealed_ends : (sealed : Result ℕ SealFault) (outcome : FileOutcome) → HasReadPlain u.most left left' reads reads' sealed
+        → HasWrittenRounds u.key u.shape (prefix_of u.device u.number) u.most window left left' start taken zero failures sealed
+        → sealed ≢ Err fault_of.TooManyChunks → EndsBy sealed u.number outcome → ClosesBy sealed outcome filled taken failures after
+        → Grows (PutsLeft u output left outcome) before after
+    sealed_ends (Ok bytes) (Sealed number long) read wrote few (same, count) closes =
+        closed_as (Sealed number long) Finished failures closes
+        (sealed_whole u output left start taken zero failures number long same wrote.written wrote.within
+        (subst (λ n. IfSome left (λ i. n ≡ length i)) (sym count) wrote.length) wrote.write)
+    sealed_ends (Ok bytes) outcome read wrote few end closes =
+        subst (λ o. Grows (PutsLeft u output left o) before after) (sym end)
+        (closed_as (Failed (Unsealed fault_of.Write)) GivenUp (counted true failures) closes
+        (sealed_unended u output left start taken zero (counted true failures) wrote.written (ap (counted true) wrote.write)))
+    sealed_ends (Err fault) (Sealed number long) read wrote few end closes = absurd (cc)
+    sealed_ends (Err fault) outcome read wrote few end closes =
+        subst (λ o. Grows (PutsLeft u output left o) before after) (sym end)
+        (closed_as (Failed (Unsealed fault)) GivenUp failures closes
+        (sealed_part u output left start taken zero failures fault wrote.begun (λ is. read.more (ap Err is)) (λ is. few (ap Err is))
+        (λ is. wrote.unwritten (ap Err is)) wrote.write))
 
 -- it is given up before it was in hand
 

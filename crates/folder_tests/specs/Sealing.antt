@@ -1,11 +1,11 @@
 -- What comes in the record of a run for one file that is sealed under a number.
-use Rattle.std.specs.Prelude.{⊤, ◌≡◌, ◌≢◌, ℕ, ◌+◌, ◌<◌, ◌≤◌, Bool, false, List, [], ◌∷◌, ◌++◌, codes, length, Option, Some, IfSome}
+use Rattle.std.specs.Prelude.{⊤, ◌≡◌, ◌≢◌, ℕ, ◌+◌, ◌<◌, ◌≤◌, Bool, true, false, List, [], ◌∷◌, ◌++◌, codes, length, Option, Some, IfSome, Result, Ok, Err}
 use Rattle.container_core.specs.Container.{container}
 use Rattle.container_core.specs.Faults.{is_failed_read, is_failed_write}
 use Rattle.container_core.specs.Shape.{ShapeView, one}
 use Rattle.container_core.specs.declared.fault.SealFault.{SealFault}
 use Rattle.container_core.specs.declared.fault.SealFault.TheVariants.{OutOfMemory, Read, TooLong, TooManyChunks, Write}
-use Rattle.io_core.specs.Streams.{IsFront}
+use Rattle.io_core.specs.Streams.{IsFront, counted}
 use Rattle.journal_core.specs.Range.{Numbers, prefix_of}
 use Rattle.journal_core.specs.declared.entry.Way.{Way}
 use Rattle.journal_core.specs.declared.entry.Way.TheVariants as way
@@ -15,6 +15,7 @@ use Rattle.folder_core.specs.declared.fault.FolderFault.TheVariants as refusal
 use Rattle.folder_core.specs.Record.{Closed, Container, Content, Entry, Finished, GivenUp, Happened, Nothing, Refused}
 use Rattle.folder_core.specs.Record.{RunRecord, Unread, times_begun}
 use Rattle.folder_core.specs.Record as event
+use Rattle.folder_core.specs.Changes.{Closes}
 use Rattle.command_core.specs.declared.line.FileFault.{FileFault}
 use Rattle.command_core.specs.declared.line.FileFault.TheVariants as line
 use Rattle.command_core.specs.declared.line.FileOutcome.{FileOutcome}
@@ -80,6 +81,24 @@ IsWhyGivenUp most OutOfMemory input content held = held ≡ []
 IsWhyGivenUp most Read input content held = ⊤
 IsWhyGivenUp most Write input content held = content ≢ Nothing
 IsWhyGivenUp most TooManyChunks input content held = ⊥
+
+-- how a number ends that was sealed under
+abbrev pub way_by : {A : Type 0} → Result A SealFault → Way
+way_by (Ok bytes) = way.Sealed
+way_by (Err fault) = way.Void
+
+-- How an output ends, by how its sealing ended under this number: if all was sealed it is finished, or couldn't be.
+abbrev pub EndsBy : Result ℕ SealFault → ℕ → FileOutcome → Type 0
+EndsBy (Ok bytes) number (Sealed n m) = (n ≡ number) × (m ≡ bytes)
+EndsBy (Ok bytes) number end = end ≡ Failed (line.Unsealed Write)
+EndsBy (Err fault) number end = end ≡ Failed (line.Unsealed fault)
+
+-- The output in hand was closed so: finished, or given up. A refused end counts as a failed write.
+abbrev pub ClosesBy : Result ℕ SealFault → FileOutcome → Option RunRecord → Option (List ℕ) → Option ℕ
+    → Option RunRecord → Type 0
+ClosesBy sealed (Sealed n m) before taken failures after = Closes Finished before taken failures after
+ClosesBy (Ok bytes) end before taken failures after = Closes GivenUp before taken (counted true failures) after
+ClosesBy (Err fault) end before taken failures after = Closes GivenUp before taken failures after
 
 -- What comes for the output of this name, of an input that is sealed into it. It is finished with the whole container,
 -- after no failed write, and the line has the number. Or it is refused, for the cause in the line. Or it is given up with

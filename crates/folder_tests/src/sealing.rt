@@ -2,19 +2,19 @@
 //! what came for it.
 //!
 //! An engine knows nothing of the record. So `container_named` names what stays the same while it writes.
-ghost use Rattle.std.specs.Prelude.{◌≡◌, ◌≢◌, ℕ, List, Err, IfSome, OnErr, OnOk, option_map, true};
+ghost use Rattle.std.specs.Prelude.{◌≡◌, ◌≢◌, ℕ, List, Err, IfSome, option_map, true};
 ghost use Rattle.container_core.specs.Shape.{IsShape};
 ghost use Rattle.io_core.specs.Streams.{counted};
 ghost use Rattle.journal_core.specs.Range.{prefix_of};
-ghost use Rattle.journal_core.specs.declared.entry.Way.TheVariants.{Sealed, Void};
 ghost use Rattle.ledger_core.specs.Shared.{spent_as};
 ghost use Rattle.output_core.specs.Bounds.{Admits};
 ghost use Rattle.sealing_core.specs.Engine.{HasReadPlain, HasWrittenRounds};
 ghost use Rattle.folder_core.specs.Record.{bound_in};
 ghost use Rattle.folder_core.specs.Changes.{IsIdle};
 ghost use Rattle.folder_core.specs.Growth.{Grows};
-ghost use Rattle.folder_tests.specs.Sealing.{AddsSealed, IsFreeUnder, IsKnownLeft, IsLongerThan, PutsLeft};
-ghost use Rattle.folder_tests.specs.Sealing.{container_under, sealing_read_failed, uncreated_as, under, way_of};
+ghost use Rattle.folder_tests.specs.Sealing.{AddsSealed, ClosesBy, EndsBy, IsFreeUnder, IsKnownLeft, IsLongerThan};
+ghost use Rattle.folder_tests.specs.Sealing.{PutsLeft, container_under, sealing_read_failed, uncreated_as, under};
+ghost use Rattle.folder_tests.specs.Sealing.{way_by, way_of};
 
 use crate::context::SealContext;
 use claim_core::Free;
@@ -49,8 +49,7 @@ fn container_named<'f, N: Rest, T: Threads + Wait + Sync, R: Source, F: Outputs>
         (R.left reader.new) (F.taken folder.old) (F.taken result.2.now) (F.failures folder.old)
         (F.failures result.2.now) result.0 }
     ensures by_bytes { result.0 ≢ Err SealFault.TooManyChunks }
-    ensures sealed { OnOk result.0 (result.1 ≡ spent_as grant Sealed) }
-    ensures void { OnErr result.0 (result.1 ≡ spent_as grant Void) }
+    ensures spent { result.1 ≡ spent_as grant (way_by result.0) }
 {
     let mut output = taken_in_hand::<F, N>(folder);
     let mut kept = Vec::new(context.alloc);
@@ -89,8 +88,7 @@ fn fill_container<T: Threads + Wait + Sync, R: Source, F: Outputs>(
         (R.left reader.new) (F.taken folder.old) (F.taken folder.new) (F.failures folder.old) (F.failures folder.new)
         result.0 }
     ensures by_bytes { result.0 ≢ Err SealFault.TooManyChunks }
-    ensures sealed { OnOk result.0 (result.1 ≡ spent_as grant Sealed) }
-    ensures void { OnErr result.0 (result.1 ≡ spent_as grant Void) }
+    ensures spent { result.1 ≡ spent_as grant (way_by result.0) }
 {
     let (sealed, spent, _folder) = container_named::<Brand, T, R, F>(
         rt, context, grant, reader, folder,
@@ -115,6 +113,35 @@ fn is_too_long<F: Folder>(folder: &F, reader: &F::Reader, max_bytes: u64) -> boo
     match folder.length(reader) {
         Some(bytes) => bytes > max_bytes,
         None => false,
+    }
+}
+
+// Ends the output in hand according to how its sealing ended. If it holds its whole container it is finished. If the
+// sealing or the finishing failed, it is given up, and its number is void.
+fn end_output<F: Outputs>(
+    folder: &mut F,
+    sealed: Result<u64, SealFault>,
+    spent: Spent,
+) -> (FileOutcome, Spent)
+    requires way { spent.way ≡ way_by sealed }
+    ensures outcome { EndsBy sealed spent.number result.0 }
+    ensures closed { ClosesBy sealed result.0 (F.rest folder.old) (F.taken folder.old) (F.failures folder.old)
+        (F.rest folder.new) }
+    ensures spent { result.1 ≡ record { device = spent.device; number = spent.number; way = way_of result.0 } }
+{
+    let number = spent.number();
+    match sealed {
+        Ok(bytes) => match finish_or_discard(folder) {
+            Ok(()) => (FileOutcome::Sealed { number, bytes }, spent),
+            Err(Failed) => (
+                FileOutcome::Failed(FileFault::Unsealed(SealFault::Write)),
+                spent.spoil(),
+            ),
+        },
+        Err(fault) => {
+            let _ = folder.discard();
+            (FileOutcome::Failed(FileFault::Unsealed(fault)), spent)
+        }
     }
 }
 
@@ -149,22 +176,9 @@ pub fn put_sealed<T: Threads + Wait + Sync, F: Folder>(
         let fault = FileFault::Unsealed(SealFault::TooLong);
         return (FileOutcome::Failed(fault), grant.waste());
     }
-    let number = grant.number();
-    folder.allow_container(handle, number, context.shape);
+    folder.allow_container(handle, grant.number(), context.shape);
     let (sealed, spent) = fill_container(rt, context, grant, reader, folder);
-    match sealed {
-        Ok(bytes) => match finish_or_discard(folder) {
-            Ok(()) => (FileOutcome::Sealed { number, bytes }, spent),
-            Err(Failed) => (
-                FileOutcome::Failed(FileFault::Unsealed(SealFault::Write)),
-                spent.spoil(),
-            ),
-        },
-        Err(fault) => {
-            let _ = folder.discard();
-            (FileOutcome::Failed(FileFault::Unsealed(fault)), spent)
-        }
-    }
+    end_output(folder, sealed, spent)
 }
 
 /// Seals one file: opens it, creates its output, which has its name and `.stm`, seals it into that, and closes it.
