@@ -4,3 +4,4 @@ mod Known
 mod Sealed
 mod SealedFile
 mod Two
+mod Waits

@@ -69,7 +69,7 @@ admits_container u place created (Some r) taken failures may free (was, known, i
 known_at : (P : List ℕ → Type 0) (left : Option (List ℕ)) (input : List ℕ) → left ≡ Some input → IfSome left P → P input
 known_at P left input is p = subst (λ o. IfSome o P) is p
 
-held_is : (start taken : Option (List ℕ)) (held bytes : List ℕ) → start ≡ Some [] → taken ≡ Some held → Appends start taken bytes
+pub held_is : (start taken : Option (List ℕ)) (held bytes : List ℕ) → start ≡ Some [] → taken ≡ Some held → Appends start taken bytes
     → held ≡ bytes
 held_is start taken held bytes empty some grew =
     subst (λ o. Appends (Some []) o bytes) some (subst (λ o. Appends o taken bytes) empty grew)

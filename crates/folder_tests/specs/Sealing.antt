@@ -1,5 +1,6 @@
 -- What comes in the record of a run for one file that is sealed under a number.
-use Rattle.std.specs.Prelude.{⊤, ◌≡◌, ◌≢◌, ℕ, ◌+◌, ◌<◌, ◌≤◌, Bool, true, false, List, [], ◌∷◌, ◌++◌, codes, length, Option, Some, IfSome, Result, Ok, Err}
+use Rattle.std.specs.Prelude.{⊤, ◌≡◌, ◌≢◌, ℕ, ◌+◌, ◌<◌, ◌≤◌, Bool, true, false, List, [], ◌∷◌, ◌++◌, codes, length}
+use Rattle.std.specs.Prelude.{Option, Some, IfSome, Result, Ok, Err}
 use Rattle.container_core.specs.Container.{container}
 use Rattle.container_core.specs.Faults.{is_failed_read, is_failed_write}
 use Rattle.container_core.specs.Shape.{ShapeView, one}
@@ -9,13 +10,13 @@ use Rattle.io_core.specs.Streams.{IsFront, counted}
 use Rattle.journal_core.specs.Range.{Numbers, prefix_of}
 use Rattle.journal_core.specs.declared.entry.Way.{Way}
 use Rattle.journal_core.specs.declared.entry.Way.TheVariants as way
-use Rattle.ledger_core.specs.Shared.{GrantView}
+use Rattle.ledger_core.specs.Shared.{GrantView, SpentView}
 use Rattle.folder_core.specs.declared.fault.FolderFault.{FolderFault}
 use Rattle.folder_core.specs.declared.fault.FolderFault.TheVariants as refusal
 use Rattle.folder_core.specs.Record.{Closed, Container, Content, Entry, Finished, GivenUp, Happened, Nothing, Refused}
-use Rattle.folder_core.specs.Record.{RunRecord, Unread, times_begun}
+use Rattle.folder_core.specs.Record.{RunRecord, State, Unread, times_begun}
 use Rattle.folder_core.specs.Record as event
-use Rattle.folder_core.specs.Changes.{Closes}
+use Rattle.folder_core.specs.Changes.{Becomes, Closes, allowed, closed_at}
 use Rattle.command_core.specs.declared.line.FileFault.{FileFault}
 use Rattle.command_core.specs.declared.line.FileFault.TheVariants as line
 use Rattle.command_core.specs.declared.line.FileOutcome.{FileOutcome}
@@ -135,6 +136,25 @@ uncreated_as refusal.Failed = line.CannotCreate
 abbrev pub way_of : FileOutcome → Way
 way_of (Sealed number bytes) = way.Sealed
 way_of _ = way.Void
+
+-- ---- an output that waits
+
+-- the number that was spent
+abbrev pub spent_under : SealContext → SpentView → UnderNumber
+spent_under context spent = under context (record { device = spent.device; number = spent.number })
+
+-- The output at this place was taken in hand and closed with these bytes, after so many failed writes.
+abbrev pub filled : ℕ → Content → State → List ℕ → ℕ → RunRecord → RunRecord
+filled place content state bytes failures r = closed_at place state bytes failures (allowed place content r)
+
+-- It was finished with all of these bytes, and the line says its number and the length of the file. Or a write failed, or
+-- the end, and it was given up with a prefix.
+abbrev pub IsPut : ℕ → Content → List ℕ → ℕ → ℕ → FileOutcome → Option RunRecord → Option RunRecord → Type 0
+IsPut place content bytes number long (Sealed n m) before after = (n ≡ number) × (m ≡ long)
+    × Becomes (filled place content Finished bytes 0) before after
+IsPut place content bytes number long end before after = (end ≡ Failed (line.Unsealed Write))
+    × IfSome after (λ _. (held : List ℕ) × IsFront held bytes
+    × Becomes (filled place content GivenUp held 1) before after)
 
 -- ---- the file
 

@@ -16,6 +16,7 @@ pub mod reader;
 pub mod sealing;
 #[cfg(test)]
 mod sealings;
+pub mod waiting;
 
 pub use crate::context::SealContext;
 pub use crate::engines::fill_sealed;
@@ -23,3 +24,4 @@ pub use crate::memory::{MemoryFolder, MemoryHandle};
 pub use crate::pages::Limits;
 pub use crate::reader::MemoryReader;
 pub use crate::sealing::{put_sealed, seal_file};
+pub use crate::waiting::put_waiting;

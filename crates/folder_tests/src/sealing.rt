@@ -118,7 +118,7 @@ fn is_too_long<F: Folder>(folder: &F, reader: &F::Reader, max_bytes: u64) -> boo
 
 // Ends the output in hand according to how its sealing ended. If it holds its whole container it is finished. If the
 // sealing or the finishing failed, it is given up, and its number is void.
-fn end_output<F: Outputs>(
+pub(crate) fn end_output<F: Outputs>(
     folder: &mut F,
     sealed: Result<u64, SealFault>,
     spent: Spent,
