@@ -1,18 +1,18 @@
 -- An output that waits, and is taken in hand and closed at its place.
-use Rattle.std.proofs.Common.{◌≡◌, ◌≢◌, ◌∙◌, ℕ, zero, suc, Bool, true, false, List, [], ◌∷◌, Option, None, Some, refl, sym, ap, ap₂, subst, append-nil, cond, ne_eqb, ◌+◌}
+use Rattle.std.proofs.Common.{◌≡◌, ◌≢◌, ◌∙◌, ℕ, zero, suc, Bool, true, false, List, [], ◌∷◌, Option, None, Some, arith, length, refl, sym, ap, ap₂, subst, append-nil, cond, ne_eqb, ◌+◌}
 use Rattle.std.specs.Prelude.{IfSome, Result, Ok, Err, slice_get}
 use Rattle.container_core.specs.Shape.{IsShape}
 use Rattle.container_core.specs.declared.fault.SealFault.{SealFault}
 use Rattle.io_core.specs.Streams.{Appends, counted}
-use Rattle.folder_core.specs.Record.{Content, Entry, Finished, GivenUp, IsOfRange, Output, RunRecord, State}
-use Rattle.folder_core.specs.Changes.{Becomes, Closes, IsFresh, IsNew, MayHold, allowed, change, closed, new_output, set_closed, set_content}
-use Rattle.folder_core.proofs.Entries.{times_kept, times_more}
+use Rattle.folder_core.specs.Record.{Content, Created, Entry, Finished, GivenUp, IsOfRange, Output, RunRecord, State}
+use Rattle.folder_core.specs.Changes.{Becomes, Closes, IsFresh, IsIdle, IsNew, MayHold, allowed, change, closed, new_output, set_closed, set_content, with_entry}
+use Rattle.folder_core.proofs.Entries.{get_more, times_kept, times_more}
 use Rattle.command_core.specs.declared.line.FileOutcome.{FileOutcome}
 use Rattle.command_core.specs.declared.line.FileOutcome.TheVariants.{Sealed}
 use Rattle.command_core.specs.Putting.{once_if}
 use Rattle.command_core.proofs.Files.{if_known}
 use Rattle.command_core.proofs.Puts.{count_is}
-use Rattle.folder_tests.specs.Sealing.{ClosesBy, EndsBy, IsFreeUnder, IsPut, UnderNumber, content_under, filled}
+use Rattle.folder_tests.specs.Sealing.{ClosesBy, EndsBy, IsFreeUnder, IsPut, UnderNumber, WaitsBeside, content_under, filled}
 use Rattle.folder_tests.proofs.Sealed.{held_is}
 
 pub may_waiting : (u : UnderNumber) (place : ℕ) (rest : Option RunRecord) → IsShape u.shape → IfSome rest (IsNew place)
@@ -25,6 +25,11 @@ may_waiting u place (Some r) shape new free = record {
 }
 
 -- others stay
+past_end : (entries : List Entry) (n : ℕ) (entry : Entry) → n ≡ length entries → slice_get entries n ≡ Some entry → ⊥
+past_end [] n entry is at = cc
+past_end (x ∷ entries) zero entry is at = omega (arith, is)
+past_end (x ∷ entries) (suc n) entry is at = past_end entries n entry (omega (arith, is)) at
+
 change_other : (place other : ℕ) (f : Output → Output) (entries : List Entry) → other ≢ place
     → slice_get (change place f entries) other ≡ slice_get entries other
 change_other place other f [] apart = refl
@@ -34,15 +39,32 @@ change_other (suc place) zero f (entry ∷ entries) apart = refl
 change_other (suc place) (suc other) f (entry ∷ entries) apart = change_other place other f entries (λ is. apart (ap suc is))
 
 pub still_new : (place other n : ℕ) (content : Content) (state : State) (held : List ℕ) (before : Option RunRecord) (r : RunRecord)
-    → other ≢ place → IfSome before (IsNew other) → Becomes (filled place content state held n) before (Some r) → IsNew other r
-still_new place other n content state held before r apart new (was, known, is) =
-    let waits : IsNew other was = subst (λ o. IfSome o (IsNew other)) known new in
+    → IfSome before (WaitsBeside place other) → Becomes (filled place content state held n) before (Some r) → IsNew other r
+still_new place other n content state held before r new (was, known, is) =
+    let (apart, waits) = subst (λ o. IfSome o (WaitsBeside place other)) known new in
     subst (IsNew other) (sym is) (record {
       name = waits.name;
       idle = refl;
       there = change_other place other (set_closed state held n) (change place (set_content content) was.entries) apart
           ∙ change_other place other (set_content content) was.entries apart ∙ waits.there;
     })
+
+pub idle_after : (e : Entry) (before after : Option RunRecord) → IsIdle before → Becomes (with_entry e) before after → IsIdle after
+idle_after e before None idle came = tt
+idle_after e before (Some r) idle (was, known, is) =
+    ap (λ (r : RunRecord). r.in_hand) is ∙ subst (λ o. IfSome o (λ r. r.in_hand ≡ None)) known idle
+
+-- one waits beside the next that is created
+pub waits_beside : (place other : ℕ) (name : List ℕ) (before created : Option RunRecord) → IfSome before (IsNew other)
+    → IfSome before (λ r. place ≡ length r.entries) → Becomes (with_entry (Created (new_output name))) before created
+    → IfSome created (WaitsBeside place other)
+waits_beside place other name before None waits at new = tt
+waits_beside place other name before (Some r) waits at (was, known, is) =
+    let new : IsNew other was = subst (λ o. IfSome o (IsNew other)) known waits in
+    let end : place ≡ length was.entries = subst (λ o. IfSome o (λ r. place ≡ length r.entries)) known at in
+    let more = get_more was.entries (Created (new_output name)) _ other new.there in
+    subst (WaitsBeside place other) (sym is)
+    ((λ same. past_end was.entries other _ (same ∙ end) new.there), record { name = new.name; idle = new.idle; there = more })
 
 -- and another number is still free
 pub still_free : (u v : UnderNumber) (place n : ℕ) (state : State) (held : List ℕ) (before : Option RunRecord) (r : RunRecord)
@@ -102,9 +124,15 @@ module _ (place : ℕ) (content : Content) (start taken : Option (List ℕ)) (ze
         → IsPut place content bytes number long outcome before after
     put_ends bytes number long (Sealed n m) grew count (same_number, same_long) closes =
         (same_number, same_long, filled_with Finished false bytes failures grew count closes)
-    put_ends bytes number long outcome grew count end closes =
-        (end, if_known after (bytes, ([], sym (append-nil bytes)), filled_with GivenUp true bytes (counted true failures) grew
-        (ap (counted true) count) closes))
+    put_ends bytes number long outcome grew count end closes = (
+      end,
+      if_known after (
+        bytes,
+        ([], sym (append-nil bytes)),
+        filled_with GivenUp true bytes (counted true failures) grew
+            (ap (counted true) count) closes,
+      ),
+    )
 
     -- what is known however it ends
     pub however : (P : RunRecord → Type 0) (sealed : Result ℕ SealFault) (outcome : FileOutcome)
@@ -117,6 +145,7 @@ module _ (place : ℕ) (content : Content) (start taken : Option (List ℕ)) (ze
             × (failures ≡ Some n) × Becomes (filled place content state held n) before after) → IfSome after P
         still state failures None known = tt
         still state failures (Some r) (held, n, empty, nil, some, many, came) = keeps state held n r came
+
         by : (sealed : Result ℕ SealFault) (outcome : FileOutcome) → ClosesBy sealed outcome written taken failures after → IfSome after P
         by (Ok long) (Sealed n m) closes = still Finished failures after (fills Finished failures closes)
         by (Ok long) outcome closes = still GivenUp (counted true failures) after (fills GivenUp (counted true failures) closes)

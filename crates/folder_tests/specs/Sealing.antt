@@ -16,7 +16,7 @@ use Rattle.folder_core.specs.declared.fault.FolderFault.TheVariants as refusal
 use Rattle.folder_core.specs.Record.{Closed, Container, Content, Entry, Finished, GivenUp, Happened, Nothing, Refused}
 use Rattle.folder_core.specs.Record.{RunRecord, State, Unread, times_begun}
 use Rattle.folder_core.specs.Record as event
-use Rattle.folder_core.specs.Changes.{Becomes, Closes, allowed, closed_at}
+use Rattle.folder_core.specs.Changes.{Becomes, Closes, IsNew, allowed, closed_at}
 use Rattle.command_core.specs.declared.line.FileFault.{FileFault}
 use Rattle.command_core.specs.declared.line.FileFault.TheVariants as line
 use Rattle.command_core.specs.declared.line.FileOutcome.{FileOutcome}
@@ -146,6 +146,10 @@ spent_under context spent = under context (record { device = spent.device; numbe
 -- The output at this place was taken in hand and closed with these bytes, after so many failed writes.
 abbrev pub filled : ℕ → Content → State → List ℕ → ℕ → RunRecord → RunRecord
 filled place content state bytes failures r = closed_at place state bytes failures (allowed place content r)
+
+-- An output at another place waits too.
+abbrev pub WaitsBeside : ℕ → ℕ → RunRecord → Type 0
+WaitsBeside place other r = (other ≢ place) × IsNew other r
 
 -- It was finished with all of these bytes, and the line says its number and the length of the file. Or a write failed, or
 -- the end, and it was given up with a prefix.

@@ -1,16 +1,18 @@
 //! A file of a folder in memory is sealed, and opened again, whichever call fails.
 ghost use Rattle.std.specs.Prelude.{◌≡◌, ◌≢◌, ℕ, ◌<◌, ◌≤◌, ◌^◌, IfSome};
-ghost use Rattle.folder_core.specs.Changes.{IsIdle};
+ghost use Rattle.folder_core.specs.Changes.{IsIdle, IsNew};
 ghost use Rattle.folder_tests.specs.Memory.{rest_of};
-ghost use Rattle.folder_tests.specs.Sealing.{IsFreeUnder, of_device_one};
+ghost use Rattle.folder_tests.specs.Sealing.{IsFreeUnder, WaitsBeside, of_device_one};
 
 use crate::context::SealContext;
-use crate::memory::MemoryFolder;
+use crate::memory::{MemoryFolder, MemoryHandle};
 use crate::openings::{Asked, NONE, OPEN, folder_within, prints_over};
 use crate::pages::Limits;
 use crate::sealing::seal_file;
+use crate::waiting::put_waiting;
 use command_core::{FileFault, FileOutcome};
 use container_core::{Key, MAX_PLAIN, SealFault, Shape, seal};
+use folder_core::Folder;
 use ledger_core::{Device, Grant, Ledger, Range, Way};
 use std::alloc::Global;
 use std::sync::Wait;
@@ -105,6 +107,79 @@ fn comes_to<T: Threads + Wait + Sync>(
         }
         None => done == Some((outcome, Way::Void)) && outcome != SEALED,
     }
+}
+
+// Writes the container of a plaintext under this number of device 1 to an output that waits. Returns what that comes to,
+// and the container.
+fn put_under(
+    alloc: Global,
+    folder: &mut MemoryFolder,
+    output: MemoryHandle,
+    secret: [u8; 32],
+    number: u32,
+    plain: &[u8],
+) -> Option<(FileOutcome, Vec<u8>)>
+    requires waits { IfSome (rest_of folder.old.pages) (IsNew output.place) }
+    requires free { IfSome (rest_of folder.old.pages) (IsFreeUnder (of_device_one secret number 1)) }
+    ensures others { (place : ℕ) → IfSome (rest_of folder.old.pages) (WaitsBeside output.place place)
+        → IfSome (rest_of folder.new.pages) (IsNew place) }
+    ensures free { (other : ℕ) → other ≢ number
+        → IfSome (rest_of folder.old.pages) (IsFreeUnder (of_device_one secret other 1))
+        → IfSome (rest_of folder.new.pages) (IsFreeUnder (of_device_one secret other 1)) }
+{
+    let grant = granted(alloc, number)?;
+    let key = Key::new(secret);
+    let shape = Shape::one();
+    let Ok(container) = seal(alloc, &key, &shape, grant.prefix(), plain) else {
+        return None;
+    };
+    let context = SealContext {
+        alloc,
+        key: &key,
+        shape: &shape,
+        max_bytes: 1,
+        workers: 1,
+        window: 1,
+    };
+    let long = plain.len() as u64;
+    let (outcome, _spent) = put_waiting(
+        &context,
+        folder,
+        output,
+        grant.used(),
+        long,
+        container.as_slice(),
+    );
+    Some((outcome, container))
+}
+
+// Whether two outputs that wait get their containers, the later one first. `None` if memory is refused.
+fn both_get_theirs(alloc: Global) -> Option<bool> {
+    let mut folder = folder_within(alloc, SECRET, NONE)?;
+    let Ok(first) = folder.create("b.stm") else {
+        return None;
+    };
+    let Ok(second) = folder.create("c.stm") else {
+        return None;
+    };
+    let (last, more) = put_under(alloc, &mut folder, second, SECRET, 5, b"more")?;
+    let (done, less) = put_under(alloc, &mut folder, first, SECRET, 4, b"less")?;
+    let is_there = folder.bytes("b.stm")?.as_slice() == less.as_slice()
+        && folder.bytes("c.stm")?.as_slice() == more.as_slice();
+    let one = FileOutcome::Sealed {
+        number: 4,
+        bytes: 4,
+    };
+    let other = FileOutcome::Sealed {
+        number: 5,
+        bytes: 4,
+    };
+    Some(is_there && done == one && last == other)
+}
+
+#[test]
+fn outputs_that_wait_get_their_containers(rt: HostRuntime) {
+    assert!(rt; both_get_theirs(rt.alloc()) == Some(true));
 }
 
 fn failed(fault: SealFault) -> FileOutcome {

@@ -6,8 +6,8 @@ ghost use Rattle.journal_core.specs.declared.entry.Way.TheVariants.{Sealed};
 ghost use Rattle.output_core.specs.Bounds.{Admits};
 ghost use Rattle.folder_core.specs.Record.{bound_in};
 ghost use Rattle.folder_core.specs.Changes.{IsNew};
-ghost use Rattle.folder_tests.specs.Sealing.{IsFreeUnder, IsPut, UnderNumber, container_under, content_under};
-ghost use Rattle.folder_tests.specs.Sealing.{spent_under, way_of};
+ghost use Rattle.folder_tests.specs.Sealing.{IsFreeUnder, IsPut, UnderNumber, WaitsBeside, container_under};
+ghost use Rattle.folder_tests.specs.Sealing.{content_under, spent_under, way_of};
 
 use crate::context::SealContext;
 use crate::sealing::end_output;
@@ -68,7 +68,7 @@ pub fn put_waiting<F: Outputs>(
     ensures put { IsPut (F.Handle.at output) (content_under (spent_under context.now spent)) container.now spent.number
         long result.0 (F.rest folder.old) (F.rest folder.new) }
     ensures spent { result.1 ≡ record { device = spent.device; number = spent.number; way = way_of result.0 } }
-    ensures others { (place : ℕ) → place ≢ F.Handle.at output → IfSome (F.rest folder.old) (IsNew place)
+    ensures others { (place : ℕ) → IfSome (F.rest folder.old) (WaitsBeside (F.Handle.at output) place)
         → IfSome (F.rest folder.new) (IsNew place) }
     ensures numbers { (other : UnderNumber) → other.number ≢ spent.number → IfSome (F.rest folder.old) (IsFreeUnder other)
         → IfSome (F.rest folder.new) (IsFreeUnder other) }

@@ -26,9 +26,9 @@ returns-in-Ok-clause-put g c =
     c.fill_bytes.ensures.rest _ _ _ _ c.in-Ok.ensures.ok c.in-Ok.ensures.count c.end_output.ensures.outcome c.end_output.ensures.closed
 
 pub returns-in-Ok-clause-others : goal.returns-in-Ok-clause-others
-returns-in-Ok-clause-others g c = λ place apart new.
+returns-in-Ok-clause-others g c = λ place new.
     however _ _ _ _ _ _ _ _ _ _ c.allow_container.ensures.allowed c.allow_container.ensures.fresh c.fill_bytes.ensures.rest (IsNew place)
-    (Ok c.args.long) c.end_output.result.0 (λ state held n r. still_new _ place n _ state held _ r apart new) c.end_output.ensures.closed
+    (Ok c.args.long) c.end_output.result.0 (λ state held n r. still_new _ place n _ state held _ r new) c.end_output.ensures.closed
 
 pub returns-in-Ok-clause-numbers : goal.returns-in-Ok-clause-numbers
 returns-in-Ok-clause-numbers g c = λ other apart free.
@@ -38,9 +38,9 @@ returns-in-Ok-clause-numbers g c = λ other apart free.
     c.end_output.ensures.closed
 
 pub returns-in-Err-clause-others : goal.returns-in-Err-clause-others
-returns-in-Err-clause-others g c = λ place apart new.
+returns-in-Err-clause-others g c = λ place new.
     however _ _ _ _ _ _ _ _ _ _ c.allow_container.ensures.allowed c.allow_container.ensures.fresh c.fill_bytes.ensures.rest (IsNew place)
-    (Err Write) c.end_output-in-Err.result.0 (λ state held n r. still_new _ place n _ state held _ r apart new) c.end_output-in-Err.ensures.closed
+    (Err Write) c.end_output-in-Err.result.0 (λ state held n r. still_new _ place n _ state held _ r new) c.end_output-in-Err.ensures.closed
 
 pub returns-in-Err-clause-numbers : goal.returns-in-Err-clause-numbers
 returns-in-Err-clause-numbers g c = λ other apart free.
