@@ -73,6 +73,7 @@ impl Shape {
         ensures value { result ≡ self.now.exponent }
         ensures least { 12 ≤ result }
         ensures most { result ≤ 20 }
+        ensures shape { IsShape self.now }
     {
         self.exponent
     }
@@ -104,6 +105,8 @@ impl Shape {
         ensures value { result ≡ size_of self.now }
         ensures least { 4096 ≤ result }
         ensures most { result ≤ most_chunk }
+        // Every value of the type is the shape of a container.
+        ensures shape { IsShape self.now }
     {
         power(self.exponent())
     }
