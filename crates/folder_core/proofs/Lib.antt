@@ -4,6 +4,7 @@ pub mod Growth
 pub mod Sound
 pub mod Calls
 pub mod Spools
+pub mod Started
 pub mod Back
 pub mod Distinct
 pub mod Ending

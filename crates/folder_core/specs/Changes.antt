@@ -1,5 +1,6 @@
 -- What each call of a folder changes in the record of its run.
 use Rattle.std.specs.Prelude.{⊤, ◌≡◌, ℕ, zero, suc, List, [], ◌∷◌, ◌++◌, slice_get, Option, None, Some, IfSome}
+use Rattle.journal_core.specs.Range.{Numbers}
 use Rattle.folder_core.specs.Record.{Checked, Container, Content, Created, Entry, Event, Happened, IsAllowed, Nothing, Open}
 use Rattle.folder_core.specs.Record.{Output, Plain, RunRecord, State, times_begun}
 
@@ -26,6 +27,17 @@ Tells event failures before after = IfSome after (λ _. (n : ℕ) × (failures �
 abbrev pub TellsBytes : (List ℕ → Event) → Option (List ℕ) → Option RunRecord → Option RunRecord → Type 0
 TellsBytes event left before after = IfSome after (λ _. (bytes : List ℕ) × (left ≡ Some bytes)
     × Becomes (with_entry (Happened (event bytes))) before after)
+
+-- ---- the key
+
+-- The record has this key now, and the range of its containers' numbers.
+abbrev pub started : List ℕ → Numbers → RunRecord → RunRecord
+started key range r = record r { under = Some (record { key = key; range = range }) }
+
+-- It has no key yet, and nothing is in hand.
+pub record IsUnstarted (r : RunRecord) : Type 0 where
+  pub unkeyed : r.under ≡ None
+  pub idle : r.in_hand ≡ None
 
 -- ---- one output changes
 

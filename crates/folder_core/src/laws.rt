@@ -3,9 +3,10 @@
 ghost use Rattle.std.specs.Prelude.{◌≡◌, ◌≢◌, ◌++◌, ℕ, All, IsUtf8, List, None, Option, Some, [], codes, length};
 ghost use Rattle.std.specs.Prelude.{IfSome, option_map};
 ghost use Rattle.io_core.specs.Streams.{IsFront};
+ghost use Rattle.journal_core.specs.Range.{Numbers};
 ghost use Rattle.output_core.specs.Bounds.{Admits};
-ghost use Rattle.folder_core.specs.Record.{Content, Created, IsSound, RunRecord, State, bound_in};
-ghost use Rattle.folder_core.specs.Changes.{Becomes, Closes, allowed, new_output, whole, with_entry};
+ghost use Rattle.folder_core.specs.Record.{Content, Created, IsSound, IsSoundWith, RunRecord, State, bound_in, times_begun};
+ghost use Rattle.folder_core.specs.Changes.{Becomes, Closes, IsUnstarted, allowed, new_output, started, whole, with_entry};
 ghost use Rattle.folder_core.specs.Growth.{Grows, PutsOut};
 ghost use Rattle.folder_core.specs.Quotes.{quoted, unquoted};
 ghost use Rattle.folder_core.specs.Trees.{IsStep, place, steps};
@@ -23,6 +24,13 @@ pub fn cut_writes_are_sound<F: Outputs>()
     ensures { (outputs : F) (r : RunRecord) (held bytes front : List ℕ) → F.rest outputs ≡ Some r
         → F.taken outputs ≡ Some held → Admits (option_map bound_in (F.rest outputs)) (F.taken outputs) bytes
         → IsFront front bytes → ∥ IsSound (whole r (held ++ front)) ∥₁ }
+{}
+
+/// Before a run has a key no output has a number. So its record, with nothing in hand, is sound with any key and range.
+pub fn no_number_without_a_key()
+    ensures none { (r : RunRecord) (number : ℕ) → IsSound r → r.under ≡ None → times_begun number r.entries ≡ 0 }
+    ensures started { (r : RunRecord) (taken : Option (List ℕ)) (key : List ℕ) (range : Numbers) → IsUnstarted r
+        → IsSoundWith (Some r) taken → IsSoundWith (Some (started key range r)) taken }
 {}
 
 /// An output that is created, taken in hand and closed is one entry after all others. Nothing was in hand before.
