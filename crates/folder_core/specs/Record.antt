@@ -20,7 +20,7 @@ pub data Content : Type 0 where
   Plain : List ℕ → List ℕ → Content
   Checked : List ℕ → List ℕ → List ℕ → Content
 
--- Whether an output is still written, was finished, or was given up.
+-- Whether an output waits or is written, was finished, or was given up.
 pub data State : Type 0 where
   Open : State
   Finished : State
@@ -56,8 +56,8 @@ pub record KeyedRange : Type 0 where
   pub key : List ℕ
   pub range : Numbers
 
--- The record of a run: the key and range of its containers, if it has any; its entries in order; and the place of the
--- output in hand, if one is. The bytes of that one are known apart, and are in its entry once it is closed.
+-- The record of a run: the key and range of its containers, if it has any; its entries in order, outputs where they were
+-- created; and the place of the output in hand, if one is. The bytes of that one are known apart, and are in its entry once it is closed.
 pub record RunRecord : Type 0 where
   pub under : Option KeyedRange
   pub entries : List Entry

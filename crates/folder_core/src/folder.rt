@@ -113,8 +113,8 @@ pub trait Folder: Outputs {
         ensures taken { Self.taken self.new ≡ Self.taken self.old }
         ensures failures { Self.failures self.new ≡ Self.failures self.old };
 
-    /// Closes a file that was opened by this name. Nothing is in hand, so an output of its bytes has ended. The record
-    /// has how many calls of its reader failed.
+    /// Closes a file that was opened by this name. Nothing is in hand: an output of its bytes has ended, or waits. The
+    /// record has how many calls of its reader failed.
     fn close(&mut self, name: &str, reader: Self::Reader)
         requires idle { IsIdle (Self.rest self.old) }
         ensures closed { Tells (Closed name.now) (Self.Reader.failures reader) (Self.rest self.old)
