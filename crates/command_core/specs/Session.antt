@@ -1,5 +1,5 @@
 -- Under which key, and over which range of numbers, containers are written into the outputs of a folder.
-use Rattle.std.specs.Prelude.{◌≡◌, ℕ, ◌+◌, ◌<◌, ◌≤◌, List, [], ◌∷◌, nat_eq, count_by, Option, Some, IfSome}
+use Rattle.std.specs.Prelude.{◌≡◌, ℕ, ◌+◌, ◌<◌, ◌≤◌, List, [], nat_eq, count_by, Option, Some, IfSome}
 use Rattle.std.specs.List.{AllByRecursion}
 use Rattle.container_core.specs.Shape.{IsShape, ShapeView}
 use Rattle.journal_core.specs.Range.{Numbers}
@@ -20,21 +20,9 @@ pub record Session : Type 0 where
   pub range : Numbers
   pub begun : List Begun
 
--- nothing began yet
-abbrev pub started : List ℕ → Numbers → Session
-started key_id range = record { key_id = key_id; range = range; begun = [] }
-
 -- how many containers began under a number
 abbrev pub times_begun : ℕ → List Begun → ℕ
 times_begun number begun = count_by (λ b. nat_eq number b.number) begun
-
--- no container began under this number
-abbrev pub IsFree : ℕ → Session → Type 0
-IsFree number session = times_begun number session.begun ≡ 0
-
--- one more began
-abbrev pub with_begun : ℕ → ShapeView → Session → Session
-with_begun number shape session = record session { begun = begun_as number shape ∷ session.begun }
 
 -- the number is one of the range, and the shape is one
 pub record IsOfRange (range : Numbers) (b : Begun) : Type 0 where

@@ -1,4 +1,4 @@
-//! Folders: what `unpipe_all` and the commands that seal read files from and create outputs in.
+//! Folders that report events: what `unpipe_all` reads a file from. No command creates an output by these calls.
 ghost use Rattle.std.specs.Prelude.{◌≡◌, ◌≢◌, ℕ, List, Option, None, Some, Err, IfOk, IfErr, IfSome, OnOk, OnErr, is_err, true};
 ghost use Rattle.io_core.specs.Streams.{counted};
 ghost use Rattle.command_core.specs.Session.{IsNew, IsSound, Session};

@@ -1,7 +1,7 @@
 //! What the commands share, and those that open and verify.
 //!
-//! A command prints one line for each file, and ends with an exit status. `open_all` and `verify_all` work over a folder
-//! of `folder_core`, `unpipe_all` and the commands that seal over a `Folder` of this crate. Key files are read here too.
+//! A command prints one line for each file, and ends with an exit status. Those over many files work over a folder of
+//! `folder_core`, `unpipe_all` over a `Folder` of this crate. Key files are read here too.
 #![tactic(auto)]
 
 pub mod commands;

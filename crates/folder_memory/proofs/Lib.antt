@@ -1,5 +1,4 @@
 mod Ends
 mod Files
 mod Positions
-mod SessionLemmas
 mod Truth

@@ -1,16 +1,13 @@
 -- The view of a folder in memory.
 use Rattle.std.specs.Prelude.{◌≡◌, ◌⊎◌, ⊤, ℕ, ◌-◌, ◌==◌, Bool, false, not, List, [], ◌∷◌, filter, Option, Some, None}
 use Rattle.std.specs.Prelude.{if◌then◌else◌, IfSome, is_some, option_map, position, bytes_eq, string_bytes}
-use Rattle.command_core.specs.Session.{IsSound, Session}
 use Rattle.command_core.specs.Trace.{Event, tape}
 use Rattle.command_core.specs.Trace as trace
 use Rattle.folder_memory.specs.declared.memory.Content.{Content}
 use Rattle.folder_memory.specs.declared.memory.Content.TheVariants.{Whole, Written}
 use Rattle.folder_memory.specs.declared.memory.File.{File}
 use Rattle.folder_memory.specs.declared.streams.MemoryWriter.{MemoryWriter}
-use Rattle.folder_memory.specs.declared.session.SessionNote.{SessionNote}
 use Rattle.folder_memory.specs.declared.streams.Pace.{Pace}
-use Rattle.folder_memory.specs.Noted.{session_of}
 use Rattle.folder_memory.specs.declared.told.Told.{Told}
 use Rattle.folder_memory.specs.declared.told.Told.TheVariants.{Reading, Unread, Rewound, Closed, Created, Refused, Finished, Discarded}
 
@@ -73,29 +70,18 @@ pub record ReaderView : Type 0 where
 abbrev pub reader_view : List ℕ → List ℕ → Option ℕ → ReaderView
 reader_view whole left failures = record { whole = whole; left = left; failures = failures }
 
--- its files, how many calls succeed before one fails, how readers and writers made from now on move their bytes, what
--- happened (unless something was forgotten), and the note of the session, if there is one
+-- its files, how many calls succeed before one fails, how readers and writers made from now on move their bytes, and
+-- what happened (unless something was forgotten)
 pub record MemoryView : Type 0 where
   pub files : List FileView
   pub refused : Option ℕ
   pub readers : Pace
   pub writers : Pace
   pub log : Option (List Event)
-  pub session : Option SessionNote
 
-abbrev pub memory_view : List FileView → Option ℕ → Pace → Pace → Option (List Event) → Option SessionNote → MemoryView
-memory_view files refused readers writers log session =
-    record { files = files; refused = refused; readers = readers; writers = writers; log = log; session = session }
-
--- the folder's session, by its note
-abbrev pub session_told : MemoryView → Option Session
-session_told folder = option_map (λ note. session_of note.place.me.0) folder.session
-
--- a note is of a sound session
-pub is_sound : (note : Option SessionNote)
-    → ∥ IfSome (option_map (λ (n : SessionNote). session_of n.place.me.0) note) IsSound ∥₁
-is_sound None = ∣ tt ∣₁
-is_sound (Some note) = note.sound
+abbrev pub memory_view : List FileView → Option ℕ → Pace → Pace → Option (List Event) → MemoryView
+memory_view files refused readers writers log =
+    record { files = files; refused = refused; readers = readers; writers = writers; log = log }
 
 abbrev pub event_of : Told → Event
 event_of (Reading name bytes) = trace.Reading (string_bytes name) bytes.items

@@ -1,29 +1,21 @@
 //! The folder in memory as the commands see it: its calls, and what each records.
 ghost use Rattle.std.specs.Prelude.{◌≡◌, ◌≢◌, ◌⊎◌, ◌↔◌, Err, ◌∷◌, ◌++◌, [], None, Some, true, false};
-ghost use Rattle.std.specs.Prelude.{ℕ, IfErr, IfOk, IfSome, OnErr, OnOk, is_err, length, option_map};
+ghost use Rattle.std.specs.Prelude.{ℕ, IfErr, IfOk, IfSome, OnErr, OnOk, is_err, length};
 ghost use Rattle.io_core.specs.Streams.{counted};
 ghost use Rattle.command_core.specs.Trace.{Closes, Creates, Discards, Does, FailsToOpen, FailsToRewind};
 ghost use Rattle.command_core.specs.Trace.{Finishes, IsCounted, Nothing, Opens, Refuses, Rewinds};
-ghost use Rattle.command_core.specs.Session.{IsFree, Session, started, with_begun};
-ghost use Rattle.container_core.specs.Shape.{IsShape};
-ghost use Rattle.command_core.specs.GrantedRange.{IsHeld};
-ghost use Rattle.sha2.specs.Sha256.{sha256};
 ghost use Rattle.folder_memory.specs.Memory.{IsEvent, LeavesOutputs, bytes_of, file_view, reader_view};
-ghost use Rattle.folder_memory.specs.Memory.{is_sound, session_told};
 ghost use Rattle.folder_memory.specs.Memory.{after_call, fails_now, is_there, name_of, taken_by};
 ghost use Rattle.folder_memory.specs.Memory.{with_bytes, without};
 
 use crate::memory::{Content, MemoryFolder, place_of};
-use crate::session::{SessionNote, is_shape};
 use crate::streams::{MemoryReader, MemoryWriter};
 use crate::told::{
     Told, closed, created, discarded, finished, reading, refused, rewound, tell, unread,
 };
-use command_core::{Folder, SealingFolder};
-use container_core::{Key, Shape};
+use command_core::Folder;
 use folder_core::FolderFault;
-use ledger_core::{Failed, Ledger, Seat};
-use reserve_core::{Fold, LedgerFile};
+use ledger_core::Failed;
 
 impl Folder for MemoryFolder {
     type Reader = MemoryReader;
@@ -31,8 +23,6 @@ impl Folder for MemoryFolder {
     type Writer = MemoryWriter;
 
     ghost told = { λ f. f.log };
-
-    ghost session = { session_told };
 
     fn open(&mut self, name: &str) -> Result<MemoryReader, FolderFault>
         ensures fault { result ≢ Err FolderFault.Exists }
@@ -50,7 +40,6 @@ impl Folder for MemoryFolder {
             ⊎ (fails_now self.old.refused ≡ true) ⊎ (self.new.log ≡ None)) }
         ensures kept { self.new.files ≡ self.old.files }
         ensures counted { self.new.refused ≡ after_call self.old.refused }
-        ensures session { self.new.session ≡ self.old.session }
     {
         let Some(bytes) = self.bytes_to_read(name) else {
             let event = unread(self.alloc, name);
@@ -91,7 +80,6 @@ impl Folder for MemoryFolder {
         ensures cause { OnErr result (fails_now self.old.refused ≡ true) }
         ensures kept { self.new.files ≡ self.old.files }
         ensures counted { self.new.refused ≡ after_call self.old.refused }
-        ensures session { self.new.session ≡ self.old.session }
     {
         if self.is_refused() {
             reader.fail();
@@ -111,7 +99,6 @@ impl Folder for MemoryFolder {
         ensures closed { Does (Closes name.now reader.failures) self.old.log self.new.log }
         ensures kept { self.new.files ≡ self.old.files }
         ensures counted { self.new.refused ≡ self.old.refused }
-        ensures session { self.new.session ≡ self.old.session }
     {
         match reader.failures() {
             Some(n) => {
@@ -137,7 +124,6 @@ impl Folder for MemoryFolder {
         ensures cause { result ≡ Err FolderFault.Failed → (fails_now self.old.refused ≡ true) ⊎ (self.new.log ≡ None) }
         ensures kept { OnErr result (self.new.files ≡ self.old.files) }
         ensures counted { self.new.refused ≡ after_call self.old.refused }
-        ensures session { self.new.session ≡ self.old.session }
     {
         match self.new_output(name) {
             Ok(writer) => {
@@ -168,7 +154,6 @@ impl Folder for MemoryFolder {
             ⊎ (fails_now self.old.refused ≡ true) ⊎ (self.new.log ≡ None)) }
         ensures kept { OnErr result (self.new.files ≡ self.old.files) }
         ensures counted { self.new.refused ≡ after_call self.old.refused }
-        ensures session { self.new.session ≡ self.old.session }
     {
         if self.is_refused() {
             return Err(output.failed());
@@ -198,7 +183,6 @@ impl Folder for MemoryFolder {
         ensures cause { OnErr result
             ((is_there self.old.files (name_of output) ≡ false) ⊎ (fails_now self.old.refused ≡ true)) }
         ensures counted { self.new.refused ≡ after_call self.old.refused }
-        ensures session { self.new.session ≡ self.old.session }
     {
         let is_refused = self.is_refused();
         let name = output.name.as_str();
@@ -214,7 +198,7 @@ impl Folder for MemoryFolder {
         Ok(())
     }
 
-    ghost sound = { λ f. is_sound f.session };
+    ghost sound = { λ _. ∣ tt ∣₁ };
 }
 
 impl MemoryFolder {
@@ -225,44 +209,5 @@ impl MemoryFolder {
         ensures others { self.new ≡ record self.old { log = self.new.log } }
     {
         tell(&mut self.told, event);
-    }
-}
-
-// It gives no bound for an output. Both calls leave the files, the record and the calls that are to fail as they are.
-impl SealingFolder for MemoryFolder {
-    fn start<S: Fold>(&mut self, _file: &LedgerFile<S>, key: &Key, ledger: &Ledger)
-        ensures folder { self.new ≡ record self.old { session = self.new.session } }
-        ensures started { IfSome (session_told self.new) (λ session.
-            session ≡ started (sha256 key.now) ledger.now.terms.range) }
-    {
-        self.session = SessionNote::new(self.alloc, key, ledger);
-    }
-
-    // It forgets the session only if the shape isn't one. Each shape is one, but no contract of a shape says so.
-    fn allow_container(
-        &mut self,
-        output: &mut MemoryWriter,
-        ledger: &Ledger,
-        seat: &Seat,
-        number: u32,
-        key: &Key,
-        shape: &Shape,
-    )
-        requires held { IsHeld ledger.now seat.now number }
-        requires started { IfSome (session_told self.old) (λ session.
-            (session.range ≡ ledger.now.terms.range) × IsFree number session) }
-        ensures folder { self.new ≡ record self.old { session = self.new.session } }
-        ensures begun { IfSome (session_told self.new) (λ session.
-            (was : Session) × (session_told self.old ≡ Some was) × (session ≡ with_begun number shape.now was)) }
-        // With a valid shape nothing is forgotten.
-        ensures kept { IsShape shape.now
-            → session_told self.new ≡ option_map (with_begun number shape.now) (session_told self.old) }
-        ensures output { output.new ≡ output.old }
-    {
-        if let Some(note) = self.session.take() {
-            if is_shape(key, shape) {
-                self.session = Some(note.begin(ledger, seat, number, shape));
-            }
-        }
     }
 }

@@ -2,10 +2,12 @@
 
 use crate::memory::MemoryFolder;
 use crate::streams::{MemoryReader, MemoryWriter};
-use command_core::Folder as TracedFolder;
+use command_core::{Folder as TracedFolder, SealingFolder};
 use container_core::{Header, Key, Shape};
 use folder_core::{Folder, FolderFault, OpeningFolder, Outputs, Place, Whole};
 use io_core::{Failed, Sink};
+use ledger_core::Ledger;
+use reserve_core::{Fold, LedgerFile};
 
 /// An output that isn't in hand.
 #[derive(Drop)]
@@ -111,4 +113,9 @@ impl OpeningFolder for MemoryFolder {
     ) {
         self.in_hand = Some(output.0);
     }
+}
+
+// It has no record that gets a key.
+impl SealingFolder for MemoryFolder {
+    fn start<S: Fold>(&mut self, _file: &LedgerFile<S>, _key: &Key, _ledger: &Ledger) {}
 }

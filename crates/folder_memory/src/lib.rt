@@ -5,7 +5,6 @@
 pub mod folder;
 pub mod hands;
 pub mod memory;
-pub mod session;
 pub mod streams;
 pub mod told;
 

@@ -8,7 +8,6 @@ ghost use Rattle.std.specs.Prelude.{string_bytes};
 ghost use Rattle.folder_memory.specs.Memory.{KeepsOrForgets, bytes_of, event_of, file_view, memory_view};
 ghost use Rattle.folder_memory.specs.Memory.{after_call, fails_now, is_there, told_of, whole_of};
 
-use crate::session::SessionNote;
 use crate::streams::{MemoryWriter, Pace, STEADY, Shown, new_writer};
 use crate::told::Told;
 use folder_core::FolderFault;
@@ -44,8 +43,6 @@ pub struct MemoryFolder {
     pub(crate) told: Option<Vec<Told>>,
     // The output in hand, if one is. Contracts don't see it.
     pub(crate) in_hand: Option<MemoryWriter>,
-    // The session that it was given, unless that was forgotten.
-    pub(crate) session: Option<SessionNote>,
 }
 
 impl Model for MemoryFolder {
@@ -55,7 +52,7 @@ impl Model for MemoryFolder {
     ghost Value = { MemoryView };
 
     ghost view = { λ f. memory_view (map file_of f.files.items) f.refused f.readers f.writers
-        (option_map (λ told. map event_of told.items) f.told) f.session };
+        (option_map (λ told. map event_of told.items) f.told) };
 
     // An output that was finished has the recorded bytes, until it is discarded.
     ghost invariant = { λ f. AreAsTold (map file_of f.files.items)
@@ -65,7 +62,7 @@ impl Model for MemoryFolder {
 impl MemoryFolder {
     /// Makes an empty folder, in which nothing fails.
     pub fn new(alloc: Global) -> MemoryFolder
-        ensures { result ≡ memory_view [] None STEADY STEADY (Some []) None }
+        ensures { result ≡ memory_view [] None STEADY STEADY (Some []) }
     {
         MemoryFolder {
             alloc,
@@ -76,7 +73,6 @@ impl MemoryFolder {
             hides_lengths: false,
             told: Some(Vec::new(alloc)),
             in_hand: None,
-            session: None,
         }
     }
 
@@ -155,13 +151,6 @@ impl MemoryFolder {
             Some(told) => Some(told.as_slice()),
             None => None,
         }
-    }
-
-    /// Ends a run: the folder forgets its session, and the next run starts its own.
-    pub fn end_session(&mut self)
-        ensures { self.new ≡ record self.old { session = None } }
-    {
-        self.session = None;
     }
 
     fn add(&mut self, name: &str, content: Content) -> Result<(), FolderFault>

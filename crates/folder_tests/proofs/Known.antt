@@ -2,9 +2,11 @@
 use Rattle.std.proofs.Common.{◌≡◌, ◌∙◌, ℕ, Bool, true, false, List, [], Option, None, Some, MatchOption, refl, sym, ap, subst}
 use Rattle.std.specs.Prelude.{IfSome}
 use Rattle.folder_core.specs.Record.{Checked, Closed, Entry, GivenUp, RunRecord, State}
-use Rattle.folder_core.specs.Changes.{Becomes, MayHold, Tells, closed_at, with_entry}
-use Rattle.folder_core.proofs.Calls.{Keeps, close_call, event_call, idle_call}
+use Rattle.folder_core.specs.Changes.{Becomes, IsUnstarted, MayHold, Tells, closed_at, started, with_entry}
+use Rattle.folder_core.proofs.Calls.{Keeps, becomes_kept, close_call, event_call, idle_call}
+use Rattle.folder_core.proofs.Started.{started_sound}
 use Rattle.folder_core.specs.Record.{IsSoundWith}
+use Rattle.journal_core.specs.Range.{Numbers}
 use Rattle.folder_tests.specs.Memory.{IsClosing, Notes, entry_of, rest_by}
 use Rattle.folder_tests.specs.declared.pages.MemoryEntry.{MemoryEntry}
 
@@ -32,6 +34,15 @@ tells_becomes (Some x) e before after is tells = subst (λ y. Becomes (with_entr
 pub kept_by : (rest rest' : Option RunRecord) (taken taken' : List ℕ) → rest' ≡ rest → taken' ≡ taken → Keeps rest taken
     → Keeps rest' taken'
 kept_by rest rest' taken taken' same is keeps = subst (λ r. Keeps r taken') (sym same) (subst (Keeps rest) (sym is) keeps)
+
+-- a key was given
+pub started_kept : (key : List ℕ) (range : Numbers) (before after : Option RunRecord) (held taken : List ℕ)
+    → IfSome before IsUnstarted → Becomes (started key range) before after → taken ≡ held → Keeps before held
+    → Keeps after taken
+started_kept key range before after held taken un is same keeps =
+    subst (Keeps after) (sym same)
+    (becomes_kept (started key range) before after held held is
+    (λ r known both. started_sound r (Some held) key range (subst (λ b. IfSome b IsUnstarted) known un) both) keeps)
 
 -- a file was closed
 pub closed_kept : (name : List ℕ) (failures : Option ℕ) (entry : Option MemoryEntry) (before after : Option RunRecord)

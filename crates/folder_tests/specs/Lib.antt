@@ -1,3 +1,4 @@
 pub mod Noted
+pub mod Keyed
 pub mod Memory
 pub mod Sealing

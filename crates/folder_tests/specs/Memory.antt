@@ -10,6 +10,9 @@ use Rattle.folder_tests.specs.declared.pages.Mark.TheVariants.{Open, Finished, G
 use Rattle.folder_tests.specs.declared.pages.MemoryEntry.{MemoryEntry}
 use Rattle.folder_tests.specs.declared.pages.MemoryEntry.TheVariants.{Read, Unread, Repeated, Unrepeated, Closed, Refused, Created}
 use Rattle.folder_tests.specs.declared.pages.Pages.{Pages}
+use Rattle.folder_tests.specs.declared.pages.Under.{Under}
+use Rattle.folder_tests.specs.declared.pages.Under.TheVariants.{Unkeyed, Fixed, Given}
+use Rattle.folder_tests.specs.Keyed.{keyed_of, keyed_range}
 use Rattle.folder_tests.specs.Noted.{content_of}
 
 abbrev pub state_of : Mark → State
@@ -35,13 +38,15 @@ entry_of (Closed name failures) = run.Happened (run.Closed (string_bytes name) f
 entry_of (Refused name fault) = run.Happened (run.Refused (string_bytes name) fault)
 entry_of (Created file) = run.Created (output_of file)
 
--- The key and range that the folder was made with.
-abbrev pub under_of : Pages → KeyedRange
-under_of pages = record { key = pages.secret; range = range_of pages.device pages.lo pages.size }
+-- The key and range of a run's containers, if there are any yet.
+abbrev pub under_of : Under → Option KeyedRange
+under_of Unkeyed = None
+under_of (Fixed secret device lo size) = Some (keyed_range secret (range_of device lo size))
+under_of (Given note) = Some (keyed_of note.mark.me.0)
 
 abbrev pub record_of : Pages → RunRecord
 record_of pages = record {
-  under = Some (under_of pages);
+  under = under_of pages.under;
   entries = map entry_of pages.entries.items;
   in_hand = pages.in_hand;
 }
@@ -67,3 +72,7 @@ IsClosing name failures entry =
 -- The record of a run that did nothing yet.
 abbrev pub fresh : List ℕ → Numbers → RunRecord
 fresh key range = record { under = Some (record { key = key; range = range }); entries = []; in_hand = None }
+
+-- The same of a run that has no key yet.
+abbrev pub unkeyed : RunRecord
+unkeyed = record { under = None; entries = []; in_hand = None }

@@ -5,6 +5,7 @@
 
 pub mod context;
 pub mod engines;
+pub mod keyed;
 pub mod memory;
 pub mod note;
 #[cfg(test)]

@@ -1,18 +1,22 @@
 //! The folder in memory.
-ghost use Rattle.std.specs.Prelude.{◌≡◌, [], Some};
+ghost use Rattle.std.specs.Prelude.{◌≡◌, [], IfSome, Some};
 ghost use Rattle.folder_core.specs.Record.{IsSoundWith};
 ghost use Rattle.journal_core.specs.Range.{range_of};
 ghost use Rattle.folder_core.specs.Changes.{allowed};
-ghost use Rattle.folder_tests.specs.Memory.{fresh, record_of, rest_of};
+ghost use Rattle.folder_tests.specs.Memory.{fresh, record_of, rest_of, unkeyed};
 
 use crate::note::Naming;
 use crate::pages::{
-    Limits, Mark, Pages, closed, created, one_more, read, refused, repeated, unread, unrepeated,
+    Limits, Mark, Pages, Under, closed, created, one_more, read, refused, repeated, unread,
+    unrepeated,
 };
 use crate::reader::MemoryReader;
+use command_core::SealingFolder;
 use container_core::{Header, Key, Shape};
 use folder_core::{Folder, FolderFault, OpeningFolder, Outputs, Place, Whole};
 use io_core::Failed;
+use ledger_core::Ledger;
+use reserve_core::{Fold, LedgerFile};
 use std::alloc::Global;
 use std::marker::Brand;
 
@@ -38,8 +42,39 @@ impl MemoryFolder {
     pub fn new(alloc: Global, secret: [u8; 32], device: u32, lo: u32, size: u32) -> MemoryFolder
         ensures { rest_of result.pages ≡ Some (fresh secret (range_of device lo size)) }
     {
-        let pages = Pages::new(alloc, secret, device, lo, size);
+        let pages = Pages::new(alloc, Under::Fixed(secret, device, lo, size));
         MemoryFolder { pages }
+    }
+
+    /// A folder with these files, for a run that has no key yet. `None` if memory is refused.
+    pub fn unkeyed(alloc: Global, files: &[(&str, &[u8])]) -> Option<MemoryFolder>
+        ensures { IfSome result (λ folder. rest_of folder.pages ≡ Some unkeyed) }
+    {
+        let pages = Pages::new(alloc, Under::Unkeyed);
+        let mut folder = MemoryFolder { pages };
+        if folder.has_put(files) {
+            Some(folder)
+        } else {
+            None
+        }
+    }
+
+    // Puts files into the folder, as if they had been there before the run. `false` if memory is refused.
+    fn has_put(&mut self, files: &[(&str, &[u8])]) -> bool
+        ensures { rest_of self.new.pages ≡ rest_of self.old.pages }
+    {
+        for (name, bytes) in files {
+            if !self.put(name, bytes) {
+                return false;
+            }
+        }
+        true
+    }
+
+    fn put(&mut self, name: &str, bytes: &[u8]) -> bool
+        ensures { rest_of self.new.pages ≡ rest_of self.old.pages }
+    {
+        self.pages.put(name, bytes)
     }
 
     /// From now on calls fail past these limits.
@@ -49,7 +84,7 @@ impl MemoryFolder {
         self.pages.limits = limits;
     }
 
-    /// Returns the bytes of the finished output of this name.
+    /// Returns the bytes of the file of this name that was there, or of the finished output.
     pub fn bytes(&self, name: &str) -> Option<Vec<u8>> {
         self.pages.bytes(name)
     }
@@ -178,6 +213,12 @@ impl OpeningFolder for MemoryFolder {
         reader: &MemoryReader,
     ) {
         allow_opened::<Brand>(&mut self.pages, output.place, key, header, reader);
+    }
+}
+
+impl SealingFolder for MemoryFolder {
+    fn start<S: Fold>(&mut self, _file: &LedgerFile<S>, key: &Key, ledger: &Ledger) {
+        self.pages.start(key, ledger);
     }
 }
 

@@ -5,13 +5,15 @@ ghost use Rattle.io_core.specs.Streams.{counted};
 ghost use Rattle.folder_core.specs.Record.{RunRecord};
 ghost use Rattle.folder_core.specs.Record as run;
 ghost use Rattle.folder_core.specs.Changes.{allowed, change, changed, closed_at, new_output, set_closed, set_content};
-ghost use Rattle.folder_core.specs.Changes.{with_entry};
-ghost use Rattle.journal_core.specs.Range.{range_of};
-ghost use Rattle.folder_tests.specs.Memory.{IsClosing, Notes, entry_of, fresh, record_of, rest_of, state_of};
+ghost use Rattle.folder_core.specs.Changes.{Becomes, started, with_entry};
+ghost use Rattle.folder_tests.specs.Memory.{IsClosing, Notes, entry_of, record_of, rest_of, state_of, under_of};
 
+use crate::keyed::KeyNote;
 use crate::note::{ContentNote, Naming};
+use container_core::Key;
 use folder_core::FolderFault;
 use io_core::Failed;
+use ledger_core::Ledger;
 use std::alloc::Global;
 
 /// The state of an output.
@@ -59,15 +61,31 @@ pub struct Limits {
     pub can_repeat: bool,
 }
 
-/// Key and range, what happened so far (unless that was forgotten), what the output in hand took, and how many writes to
-/// it failed, if that is known.
+/// The key and range of a run's containers.
+#[derive(Drop)]
+pub enum Under {
+    /// There are none yet.
+    Unkeyed,
+    /// This key, and the numbers of this device: the first, and how many.
+    Fixed([u8; 32], u32, u32, u32),
+    /// A call gave them.
+    Given(KeyNote),
+}
+
+/// A file that was there before the run.
+#[derive(Drop)]
+pub struct Input {
+    name: String,
+    bytes: Vec<u8>,
+}
+
+/// Key and range, the files that were there, what happened so far (unless that was forgotten), what the output in hand
+/// took, and how many writes to it failed, if that is known.
 #[derive(Drop)]
 pub struct Pages {
     pub(crate) alloc: Global,
-    pub(crate) secret: [u8; 32],
-    pub(crate) device: u32,
-    pub(crate) lo: u32,
-    pub(crate) size: u32,
+    pub(crate) under: Under,
+    pub(crate) inputs: Vec<Input>,
     pub(crate) told: bool,
     pub(crate) entries: Vec<MemoryEntry>,
     pub(crate) in_hand: Option<usize>,
@@ -99,20 +117,20 @@ impl MemoryEntry {
 }
 
 impl Pages {
-    pub(crate) fn new(alloc: Global, secret: [u8; 32], device: u32, lo: u32, size: u32) -> Pages
+    pub(crate) fn new(alloc: Global, under: Under) -> Pages
         ensures told { result.told ≡ true }
+        ensures under { result.under ≡ under }
         ensures empty { map entry_of result.entries.items ≡ [] }
         ensures idle { result.in_hand ≡ None }
         ensures taken { result.taken.items ≡ [] }
         ensures failures { result.failures ≡ Some 0 }
-        ensures rest { rest_of result ≡ Some (fresh secret (range_of device lo size)) }
+        ensures rest { rest_of result
+            ≡ Some (record { under = under_of under; entries = []; in_hand = None }) }
     {
         Pages {
             alloc,
-            secret,
-            device,
-            lo,
-            size,
+            under,
+            inputs: Vec::new(alloc),
             told: true,
             entries: Vec::new(alloc),
             in_hand: None,
@@ -233,8 +251,38 @@ impl Pages {
         self.failures = Some(0);
     }
 
-    // The bytes of the finished output of this name.
+    // The key and the ledger's range are the run's, unless memory is refused. Then all is forgotten.
+    pub(crate) fn start(&mut self, key: &Key, ledger: &Ledger)
+        ensures started { Becomes (started key.now ledger.now.terms.range) (rest_of self.old) (rest_of self.new) }
+        ensures taken { self.new.taken ≡ self.old.taken }
+    {
+        match KeyNote::new(self.alloc, key, ledger) {
+            Some(note) => self.under = Under::Given(note),
+            None => self.told = false,
+        }
+    }
+
+    // Puts a file into the folder, as if it had been there before the run. `false` if memory is refused.
+    pub(crate) fn put(&mut self, name: &str, bytes: &[u8]) -> bool
+        ensures rest { rest_of self.new ≡ rest_of self.old }
+        ensures taken { self.new.taken ≡ self.old.taken }
+    {
+        let Ok(name) = String::from_str(self.alloc, name) else {
+            return false;
+        };
+        match Vec::from_slice(self.alloc, bytes) {
+            Ok(bytes) => self.inputs.push(Input { name, bytes }).is_ok(),
+            Err(_) => false,
+        }
+    }
+
+    // The bytes of the file of this name that was there, or of the finished output.
     pub(crate) fn bytes(&self, name: &str) -> Option<Vec<u8>> {
+        for input in &self.inputs {
+            if input.name.as_str() == name {
+                return Vec::from_slice(self.alloc, input.bytes.as_slice()).ok();
+            }
+        }
         for entry in &self.entries {
             if let MemoryEntry::Created(file) = entry {
                 if file.name.as_str() == name && file.mark == Mark::Finished {

@@ -1,6 +1,6 @@
 //! The command that seals files, and the ledger file over which it seals them.
 ghost use Rattle.std.specs.Prelude.{◌≡◌, ◌⊎◌, ◌<◌, ◌≤◌, ℕ, Bool, List, length, map, ◌≢◌, IfOk, IfSome, [], false};
-ghost use Rattle.std.specs.Prelude.{OnErr, if◌then◌else◌};
+ghost use Rattle.std.specs.Prelude.{OnErr, if◌then◌else◌, option_map};
 ghost use Rattle.sha2.specs.Sha256.{sha256};
 ghost use Rattle.journal_core.specs.declared.entry.Entry.{Entry};
 ghost use Rattle.journal_core.specs.Journal.{terms_of};
@@ -11,8 +11,11 @@ ghost use Rattle.sqlite.specs.Files.{file_state, over_files};
 ghost use Rattle.sqlite.specs.State.{HasCleanDisk};
 ghost use Rattle.reserve_core.specs.NextRun.{IsFound};
 ghost use Rattle.reserve_core.specs.Witness.{IsWitnessed};
+ghost use Rattle.command_core.specs.Turns.{printed};
+ghost use Rattle.folder_core.specs.Changes.{IsUnstarted, started};
 ghost use Rattle.sealer_core.specs.Complaints.{Complains};
-ghost use Rattle.sealer_core.specs.Sealing.{FoldsFiles, Happened, HasSealed, IsOfSealing, IsWritten, ReservesFilesOnce};
+ghost use Rattle.sealer_core.specs.Sealing.{FoldsFiles, HasSealed, IsOfSealing, IsWritten, ReservesFilesOnce};
+ghost use Rattle.sealer_core.specs.Sealing.{sealed_under};
 ghost use Rattle.sealer.specs.Status.{IsOfCommand, IsStatusOf, IsStatusOver};
 
 use crate::beginning::{
@@ -193,7 +196,7 @@ fn seal_in_turn<
     requires window { (0 < request.now.window) × (request.now.window ≤ MAX_WINDOW) }
     requires lanes { (0 < request.now.lanes) × (request.now.lanes ≤ MAX_LANES) }
     requires max_bytes { request.now.max_bytes ≤ MAX_BYTES }
-    requires idle { IfSome (F.session folder.old) (λ session. session.begun ≡ []) }
+    requires unstarted { IfSome (F.rest folder.old) IsUnstarted }
     ensures status { IsStatusOf (λ name. IsOfSealing) result (map (λ name. name.now) request.now.files.now)
         (L.taken out.old.lines) (L.taken out.new.lines) }
 {
@@ -234,7 +237,7 @@ fn seal_once<
     requires window { (0 < request.now.window) × (request.now.window ≤ MAX_WINDOW) }
     requires lanes { (0 < request.now.lanes) × (request.now.lanes ≤ MAX_LANES) }
     requires max_bytes { request.now.max_bytes ≤ MAX_BYTES }
-    requires idle { IfSome (F.session folder.old) (λ session. session.begun ≡ []) }
+    requires unstarted { IfSome (F.rest folder.old) IsUnstarted }
     ensures status { IfOk result (λ status. IsStatusOf (λ name. IsOfSealing) status
         (map (λ name. name.now) request.now.files.now) (L.taken out.old.lines) (L.taken out.new.lines)) }
     ensures refused { OnErr result ((folder.new ≡ folder.old) × (out.new ≡ out.old)) }
@@ -301,7 +304,7 @@ fn seal_from<
     requires window { (0 < request.now.window) × (request.now.window ≤ MAX_WINDOW) }
     requires lanes { (0 < request.now.lanes) × (request.now.lanes ≤ MAX_LANES) }
     requires max_bytes { request.now.max_bytes ≤ MAX_BYTES }
-    requires idle { IfSome (F.session folder.old) (λ session. session.begun ≡ []) }
+    requires unstarted { IfSome (F.rest folder.old) IsUnstarted }
     ensures status { IfOk result (λ r. r.0 ≤ 2) }
     // The ledger file was opened as it was found, and at most one range was appended to it. Then no output was touched,
     // or the files were sealed over a range reserved there, with one legal history. The file has that range without its
@@ -318,10 +321,11 @@ fn seal_from<
         (length request.now.files.now) (LedgerFile.Kept keeper) r.1 range
         × IsLawfulRange range
         × IsWitnessed (N.floor witness.old) (N.recorded witness.old) (N.recorded witness.new) range
-        × HasSealed (Happened key.now request.now.shape request.now.max_bytes range.device
-        (F.told folder.old) (F.told folder.new))
+        × HasSealed (sealed_under key.now request.now.shape range.device request.now.max_bytes)
         (map (λ name. name.now) request.now.files.now) (terms_of range request.now.lanes) history told
-        (L.taken out.old.lines) (L.taken out.new.lines) (L.failures out.old.lines) (L.failures out.new.lines)
+        (printed (L.taken out.old.lines) (L.failures out.old.lines))
+        (printed (L.taken out.new.lines) (L.failures out.new.lines))
+        (option_map (started key.now range) (F.rest folder.old)) (F.rest folder.new)
         × IsWritten J.taken (journal_text (terms_of range request.now.lanes) history) written
         out.old.journal out.new.journal
         × (r.0 ≡ (if written then told else 2))))) }

@@ -12,7 +12,7 @@ use Rattle.container_core.proofs.HeaderLemmas.{shape-bounds}
 use Rattle.container_core.proofs.OpeningLemmas.{length-body}
 use Rattle.container_core.proofs.PartsLemmas.{body-count, count-enough, length-chunks}
 use Rattle.journal_core.specs.Range.{Numbers, prefix_of}
-use Rattle.sealer_core.specs.Outputs.{stream_nonces}
+use Rattle.sealer_core.specs.Nonces.{stream_nonces}
 use Rattle.sealer_core.specs.Theorem.{BeginsContainer, HasChunk}
 
 has_nonce : (header : List ℕ) (number : ℕ) (list : List (List ℕ)) (chunk : ℕ) → chunk < length list

@@ -22,7 +22,7 @@ use Rattle.container_core.proofs.LawLemmas.{nonce_of-injective}
 use Rattle.ranges_core.specs.Reservations.{TakenRange, Adjacent}
 use Rattle.ranges_core.proofs.Behind.{behind}
 use Rattle.sealer_core.specs.Life.{LedgerRun, Refused, CutOff, Acknowledged, reserved, history_of, IsLedgerRun, IsLife, Lives, LedgerGrant, HasGrant, ShapedPlain, prefix_by, container_nonces}
-use Rattle.sealer_core.specs.Outputs.{sealed_under, stream_nonces}
+use Rattle.sealer_core.specs.Nonces.{sealed_by_nonces, stream_nonces}
 
 -- ranges of a list
 
@@ -251,16 +251,16 @@ one_nonce key lives sealed one other chunk another nonce has also lawful proper 
 
 -- the nonces of STREAM
 
-stream_under : (key header : List ℕ) (number : ℕ) (list : List (List ℕ))
-    → stream key header number list ≡ sealed_under key header (stream_nonces header number list) list
-unfolding stream sealed_chunk stream_nonces sealed_under
+pub stream_under : (key header : List ℕ) (number : ℕ) (list : List (List ℕ))
+    → stream key header number list ≡ sealed_by_nonces key header (stream_nonces header number list) list
+unfolding stream sealed_chunk stream_nonces sealed_by_nonces
 stream_under key header number [] = refl
 stream_under key header number (chunk ∷ rest) =
     ap (λ (s : List ℕ). sealed_chunk key header number (is_nil rest) chunk ++ s) (stream_under key header (number + 1) rest)
 
 pub container_under : (key : List ℕ) (grant : LedgerGrant) (sealing : ShapedPlain)
     → container key sealing.shape (prefix_by grant) sealing.plain
-    ≡ header_of key sealing.shape (prefix_by grant) ++ sealed_under key (header_of key sealing.shape (prefix_by grant))
+    ≡ header_of key sealing.shape (prefix_by grant) ++ sealed_by_nonces key (header_of key sealing.shape (prefix_by grant))
     (container_nonces key grant sealing) (chunks (size_of sealing.shape) sealing.plain)
 unfolding container container_nonces
 container_under key grant sealing =

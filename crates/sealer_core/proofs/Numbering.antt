@@ -25,7 +25,9 @@ use Rattle.crew_core.specs.Spending.{spent_as}
 use Rattle.command_core.specs.declared.line.FileFault.{FileFault}
 use Rattle.command_core.specs.declared.line.FileOutcome.TheVariants.{Sealed, Failed}
 use Rattle.command_core.specs.Lines.{FileLine}
-use Rattle.sealer_core.specs.Sealing.{Accounts, AreNumbered, AreSealed, HasSealed, IsSettled, line_of, operations_of, seals, spoils, tells_of, times_in, times_told}
+use Rattle.command_core.specs.Turns.{Printed}
+use Rattle.folder_core.specs.Record.{RunRecord}
+use Rattle.sealer_core.specs.Sealing.{Accounts, AreNumbered, AreSealed, HasSealed, IsSettled, SealedUnder, line_of, operations_of, seals, spoils, tells_of, times_in, times_told}
 
 pub told_push : (n : ℕ) (lines : List FileLine) (line : FileLine) → times_told n (lines ++ line ∷ []) ≡ times_told n lines + cond (tells_of n line.outcome) 1 0
 told_push n lines line = sum_by_push (λ (x : FileLine). cond (tells_of n x.outcome) 1 0) lines line
@@ -454,17 +456,16 @@ are_numbered terms history lines voids legal a = record {
 
 -- ---- a run
 
-pub has_sealed : (happened : List (List FileLine) → List ℕ → Type 0) (names : List (List ℕ)) (ledger : LedgerView) (seats : List SeatView) (history : List Entry) (status : ℕ) (old new : Option (List ℕ))
-    (failures failures' : Option ℕ) → AreAllSeats ledger seats → IsWhole ledger.terms seats history
-    → AreSealed happened ledger.terms.seats names (operations_of seats) status old new failures failures'
-    → HasSealed happened names ledger.terms history status old new failures failures'
-has_sealed happened names ledger seats history status old new failures failures' all whole s =
-    let accounts = accounts_whole s.worked.lines s.worked.voids ledger seats history all whole s.accounts in record {
-      worked = s.worked;
-      numbered = are_numbered ledger.terms history s.worked.lines s.worked.voids whole.legal accounts;
+pub has_sealed : (under : SealedUnder) (names : List (List ℕ)) (ledger : LedgerView) (seats : List SeatView) (history : List Entry) (status : ℕ)
+    (old new : Printed) (before after : Option RunRecord) → AreAllSeats ledger seats → IsWhole ledger.terms seats history
+    → AreSealed under names (operations_of seats) status old new before after
+    → HasSealed under names ledger.terms history status old new before after
+has_sealed under names ledger seats history status old new before after all whole s =
+    let accounts = accounts_whole s.worked.lines s.voids ledger seats history all whole s.accounts in record {
+      sealed = record { worked = s.worked; voids = s.voids; given_up = s.given_up; accounts = accounts };
+      numbered = are_numbered ledger.terms history s.worked.lines s.voids whole.legal accounts;
       legal = whole.legal;
-      accounts = accounts;
-      settled = is_settled ledger.terms history s.worked.lines s.worked.voids whole.legal accounts;
+      settled = is_settled ledger.terms history s.worked.lines s.voids whole.legal accounts;
     }
 
 -- ---- new seats

@@ -11,7 +11,8 @@ use Rattle.container_core.proofs.HeaderLemmas.{length-header_of, length-prefix_i
 use Rattle.command_core.specs.declared.line.FileOutcome.{FileOutcome}
 use Rattle.command_core.specs.declared.line.FileOutcome.TheVariants.{Opened, Sealed}
 use Rattle.command_core.specs.Files.{AddsOpened, FileEntries}
-use Rattle.command_core.specs.Trace.{Event, Closed, Finished}
+use Rattle.command_core.specs.Putting.{once_if}
+use Rattle.command_core.specs.Trace.{Event, Closed}
 use Rattle.command_core.specs.Unpiping.{Unpipes}
 use Rattle.command_core.specs.Work.{output_for}
 use Rattle.folder_core.specs.Record.{RunRecord}
@@ -20,10 +21,10 @@ use Rattle.journal_core.specs.declared.entry.Entry.{Entry}
 use Rattle.journal_core.specs.declared.terms.Terms.{Terms}
 use Rattle.journal_core.specs.Range.{prefix_of}
 use Rattle.sealer_core.specs.Piping.{WorksStream}
-use Rattle.sealer_core.specs.Sealing.{Sealing, group_events, sealed_name}
-use Rattle.sealer_core.specs.Restored.{IsAmong, IsFinishedAmong, OpenedFiles, WasOpened, WasSealed, WroteFiles, WroteStream}
-use Rattle.sealer_core.specs.Restored.{finished_in, finished_of, read_in, readings_of}
-use Rattle.sealer_core.proofs.Finished.{IsOfInput, of_groups}
+use Rattle.sealer_core.specs.Sealing.{AddsSealed, is_unread, sealed_name, sealed_under}
+use Rattle.sealer_core.specs.Restored.{IsFinishedAmong, OpenedFiles, WasOpened, WasSealed, WroteFiles, WroteStream}
+use Rattle.sealer_core.specs.Restored.{finished_of, read_in, readings_of}
+use Rattle.sealer_core.proofs.Finished.{IsOfInput, of_files}
 use Rattle.sealer_core.proofs.Opened.{AreOpened, all_opened, opens_to, was_opened}
 
 long_enough : (key : List ℕ) (shape : ShapeView) (prefix plain : List ℕ) → length prefix ≡ 7 → 17 ≤ length (container key shape prefix plain)
@@ -81,14 +82,16 @@ module _ (key : List ℕ) (opens : Opens key) (differ : Differ key) (shape : Sha
       let plain_is = opened_is prefix input plain most seven good in
       (finished ∙ ap (λ (b : List ℕ). b ∷ []) plain_is, long ∙ ap length plain_is)
 
-  pub of_files : (device number bytes limit most n : ℕ) (label : Option (List ℕ)) (name other target void : List ℕ) (before after : List Event)
-      (entries : List record_of.Entry) (earlier : List (List ℕ))
-      → Sealing key shape limit device name (Sealed number bytes) void before after → AddsOpened key most label target other (Opened n) entries
-      → readings_of entries ≡ earlier ++ finished_in after → (finished_of entries ≡ read_in before) × (n ≡ bytes)
-  of_files device number bytes limit most n label name other target void before after entries earlier (input, none, long, within, begun, ended) opened same =
+  pub of_lines : (device number bytes limit most n : ℕ) (label : Option (List ℕ)) (name other target : List ℕ) (added entries : List record_of.Entry)
+      (earlier : List (List ℕ))
+      → AddsSealed (sealed_under key shape device limit) name (Sealed number bytes) added → AddsOpened key most label target other (Opened n) entries
+      → readings_of entries ≡ earlier ++ finished_of added → (finished_of entries ≡ readings_of added) × (n ≡ bytes)
+  of_lines device number bytes limit most n label name other target added entries earlier (input, put, (long, within, sealed), is) opened same =
+      let last : record_of.Entry = record_of.Happened (record_of.Closed name (once_if (is_unread (Sealed number bytes)))) in
+      let all = is ∙ ap (λ (e : record_of.Entry). record_of.Happened (record_of.Read name input) ∷ e ∷ last ∷ []) sealed in
       let (finished, count) = opened_of (prefix_of device number) input most n label target other entries earlier refl opened
-      (same ∙ ap (λ l. earlier ++ finished_in l) ended) in
-      (finished ∙ sym (ap read_in begun), count ∙ sym long)
+      (same ∙ ap (λ l. earlier ++ finished_of l) all) in
+      (finished ∙ sym (ap readings_of all), count ∙ sym long)
 
   pub of_streams : (device number bytes chunks most n : ℕ) (label left : Option (List ℕ)) (failures later refusals more : Option ℕ)
       (input taken written other target void : List ℕ) (entries : List record_of.Entry) (earlier : List (List ℕ))
@@ -128,23 +131,24 @@ each_opened key call output plain at =
 
 -- what the output of a run of `seal_all` is finished with is the container of an input
 pub held_of_run : (key : List ℕ) (terms : Terms) (history : List Entry) (run : WroteFiles key terms history) (output bytes : List ℕ)
-    → IsAmong (Finished output bytes) run.events → IsOfInput key run.shape terms.range.device output bytes (λ file input. WasSealed run.events file input bytes)
+    → IsFinishedAmong output bytes run.entries → IsOfInput (sealed_under key run.shape terms.range.device 0) output bytes run.entries
 held_of_run key terms history run output bytes at =
-    let (most, status, old, new, failures, later, sealed) = run.sealed in
-    let (events, happened, joined) = sealed.worked.done in
-    let all : run.events ≡ flat_map group_events happened.parts = append_cancel_left run.before run.events events joined ∙ happened.joined in
-    subst (λ (l : List Event). IsOfInput key run.shape terms.range.device output bytes (λ file input. WasSealed l file input bytes)) (sym all)
-    (of_groups key run.shape most terms.range.device output bytes happened.parts happened.each (subst (IsAmong (Finished output bytes)) all at))
+    let (most, status, old, new, sealed) = run.sealed in
+    let (entries, adds, joined) = sealed.sealed.worked.added in
+    let all : run.entries ≡ flat_map (λ (f : FileEntries). f.entries) adds.files =
+    append_cancel_left run.before.entries run.entries entries (ap (λ (r : RunRecord). r.entries) joined) ∙ adds.joined in
+    subst (IsOfInput (sealed_under key run.shape terms.range.device 0) output bytes) (sym all)
+    (of_files (sealed_under key run.shape terms.range.device most) output bytes adds.files adds.each (subst (IsFinishedAmong output bytes) all at))
 
 module _ (key : List ℕ) (opens : Opens key) (differ : Differ key) (terms : Terms) (history : List Entry) (call : OpenedFiles key) where
   -- what was opened of an output that a run of `seal_all` finished is what the run had read
-  pub of_run : (run : WroteFiles key terms history) (output file bytes plain : List ℕ) → IsAmong (Finished output bytes) run.events → WasOpened call.to call.entries file bytes plain
-      → (source : List ℕ) × (output ≡ sealed_name source) × WasSealed run.events source plain bytes
+  pub of_run : (run : WroteFiles key terms history) (output file bytes plain : List ℕ) → IsFinishedAmong output bytes run.entries → WasOpened call.to call.entries file bytes plain
+      → (source : List ℕ) × (output ≡ sealed_name source) × WasSealed run.entries source plain bytes
   of_run run output file bytes plain at was =
       let (source, input, number, named, held, sealed) = held_of_run key terms history run output bytes at in
       let (most, opened) = opened_to key call file bytes plain was in
       let plain_is = opened_is key opens differ run.shape run.is_shape (prefix_of terms.range.device number) input plain most refl (subst (λ (b : List ℕ). opening key most b ≡ Ok plain) held opened) in
-      (source, named, subst (λ (p : List ℕ). WasSealed run.events source p bytes) (sym plain_is) sealed)
+      (source, named, subst (λ (p : List ℕ). WasSealed run.entries source p bytes) (sym plain_is) sealed)
 
   -- and of one of `pipe_all`
   pub of_stream_run : (run : WroteStream key terms history) (number count : ℕ) (file plain : List ℕ) → run.outcome ≡ Sealed number count → WasOpened call.to call.entries file run.bytes plain
@@ -171,15 +175,15 @@ unpiped_of key most n label name bytes before plain events earlier (worked, (hea
 module _ (key : List ℕ) (opens : Opens key) (differ : Differ key) (terms : Terms) (history : List Entry) where
   -- of an output that a run of `seal_all` finished
   pub unpiped_run : (run : WroteFiles key terms history) (output bytes name before plain : List ℕ) (most n : ℕ) (label : Option (List ℕ))
-      (events : List Event) (earlier : List (List ℕ)) → IsAmong (Finished output bytes) run.events
+      (events : List Event) (earlier : List (List ℕ)) → IsFinishedAmong output bytes run.entries
       → Unpipes key most label name (Some before) (Some (before ++ plain)) (Opened n) events → read_in events ≡ earlier ++ bytes ∷ []
-      → (source : List ℕ) × (output ≡ sealed_name source) × WasSealed run.events source plain bytes
+      → (source : List ℕ) × (output ≡ sealed_name source) × WasSealed run.entries source plain bytes
   unpiped_run run output bytes name before plain most n label events earlier at unpiped same =
       let (source, input, number, named, held, sealed) = held_of_run key terms history run output bytes at in
       let (whole, opened, grew) = unpiped_of key most n label name bytes before plain events earlier unpiped same in
       let whole_is = opened_is key opens differ run.shape run.is_shape (prefix_of terms.range.device number) input whole most refl
       (subst (λ (b : List ℕ). opening key most b ≡ Ok whole) held opened) in
-      (source, named, subst (λ (p : List ℕ). WasSealed run.events source p bytes) (sym (grew ∙ whole_is)) sealed)
+      (source, named, subst (λ (p : List ℕ). WasSealed run.entries source p bytes) (sym (grew ∙ whole_is)) sealed)
 
   -- and of a stream that a run of `pipe_all` sealed
   pub unpiped_stream_run : (run : WroteStream key terms history) (number count most n : ℕ) (label : Option (List ℕ)) (name before plain : List ℕ)

@@ -1,67 +1,105 @@
 -- One more group of files: what held of the sealed files so far holds with it.
-use Rattle.std.proofs.Common.{◌≡◌, ℕ, ◌≤◌, refl, sym, ap, subst, ◌∙◌, List, [], ◌∷◌, ◌++◌, map, append-nil, Option, flat_map, All, take, length, ◌+◌, ◌-◌, arith}
-use Rattle.std.proofs.Math.Seq.{take-append_seam}
-use Rattle.std.proofs.lemmas.List.{map-append, length-append}
-use Rattle.command_core.specs.Lines.{FileLine}
-use Rattle.journal_core.specs.declared.entry.Entry.{Entry}
-use Rattle.sealer_core.specs.Sealing.{Accounts, AreSealed, IsOfSealing}
-use Rattle.command_core.specs.Work.{AreTold}
+use Rattle.std.proofs.Common.{◌≡◌, ◌∙◌, ℕ, List, [], ◌∷◌, ◌++◌, Option, None, Some, refl, sym, ap, ap₂, subst, append-nil}
 use Rattle.std.proofs.lemmas.Grind.{flat_map-append}
-use Rattle.std.proofs.lemmas.List.Elements.{All-push, All-append, All-nil}
+use Rattle.std.proofs.lemmas.List.{map-append}
+use Rattle.std.proofs.lemmas.List.Elements.{All-append, All-cons, All-nil}
+use Rattle.journal_core.specs.declared.entry.Entry as journal
+use Rattle.folder_core.specs.Record.{Entry, RunRecord}
+use Rattle.folder_core.specs.Growth.{Grows}
+use Rattle.folder_core.proofs.Growth.{grows_on}
+use Rattle.command_core.specs.declared.line.FileFault.TheVariants.{OutOfMemory}
+use Rattle.command_core.specs.declared.line.FileOutcome.{FileOutcome}
+use Rattle.command_core.specs.declared.line.FileOutcome.TheVariants.{Failed}
+use Rattle.command_core.specs.Files.{AddsFiles, FileEntries}
+use Rattle.command_core.specs.Lines.{FileLine}
+use Rattle.command_core.specs.Turns.{Printed, printed}
 use Rattle.command_core.proofs.Telling.{nothing_told}
+use Rattle.sealer_core.specs.Group.{AddsLines, AreEnded, refused_lines}
+use Rattle.sealer_core.specs.Sealing.{Accounts, AddsSealed, AreSealed, IsOfSealing, SealedUnder, given_up_in, line_of}
+use Rattle.sealer_core.proofs.Owing.{let_go, nothing_held}
+use Rattle.sealer_core.proofs.FileEnds.{given_up_more, line_more, no_lines}
 
-all_but_last : {X : Type 0} (xs : List X) (x : X) → take (length (xs ++ x ∷ []) - 1) (xs ++ x ∷ []) ≡ xs
-all_but_last xs x =
-    let long : length (xs ++ x ∷ []) ≡ length xs + 1 = length-append xs (x ∷ []) in
-    let before : length (xs ++ x ∷ []) - 1 ≡ length xs = omega arith in
-    ap (λ n. take n (xs ++ x ∷ [])) before ∙ take-append_seam xs (x ∷ [])
+-- entries of some kind are of another
+grows_as : (p q : List Entry → Type 0) (before after : Option RunRecord) → ((new : List Entry) → p new → q new) → Grows p before after → Grows q before after
+grows_as p q before None also grew = tt
+grows_as p q None (Some after) also grew = absurd grew
+grows_as p q (Some before) (Some after) also (new, is, came) = (new, also new is, came)
 
--- one more group of files was sealed; if it is full, as those before it are, all are
-pub sealed_more : (happened happened' : List (List FileLine) → List ℕ → Type 0) (lanes : ℕ) (names more names' : List (List ℕ)) (group : List FileLine) (void : List ℕ) (operations operations' : List Entry) (status status' : ℕ)
-    (old mid new : Option (List ℕ)) (failures failures' failures'' : Option ℕ)
-    → (s : AreSealed happened lanes names operations status old mid failures failures') → All (λ (g : List FileLine). length g ≡ lanes) s.worked.groups → length group ≤ lanes
-    → map (λ (line : FileLine). line.name) group ≡ more → All (λ (line : FileLine). IsOfSealing line.outcome) group
-    → AreTold status' (s.worked.lines ++ group) old new failures failures''
-    → names ++ more ≡ names' → Accounts (s.worked.lines ++ group) (s.worked.voids ++ void) operations' → happened' (s.worked.groups ++ group ∷ []) (s.worked.voids ++ void)
-    → (t : AreSealed happened' lanes names' operations' status' old new failures failures'') × (length group ≡ lanes → All (λ (g : List FileLine). length g ≡ lanes) t.worked.groups)
-sealed_more happened happened' lanes names more names' group void operations operations' status status' old mid new failures failures' failures'' s full few called fit told longer accounts done = (
-  record {
-    worked = record {
-      groups = s.worked.groups ++ group ∷ [];
-      few = All-push (λ (g : List FileLine). length g ≤ lanes) s.worked.groups group s.worked.few few;
-      full = subst (All (λ (g : List FileLine). length g ≡ lanes)) (sym (all_but_last s.worked.groups group)) full;
-      lines = s.worked.lines ++ group;
-      voids = s.worked.voids ++ void;
-      joined = ap (λ l. l ++ group) s.worked.joined ∙ ap (λ l. flat_map (λ (g : List FileLine). g) s.worked.groups ++ l) (sym (append-nil group))
-          ∙ sym (flat_map-append (λ (g : List FileLine). g) s.worked.groups (group ∷ []));
-      named = map-append (λ (l : FileLine). l.name) s.worked.lines group ∙ ap (λ l. l ++ map (λ (l : FileLine). l.name) group) s.worked.named ∙ ap (λ l. names ++ l) called ∙ longer;
-      fitting = All-append (λ (l : FileLine). IsOfSealing l.outcome) s.worked.lines group s.worked.fitting fit;
-      told = told;
-      done = done;
-    };
-    accounts = accounts;
-  },
-  λ is. All-push (λ (g : List FileLine). length g ≡ lanes) s.worked.groups group full is,
-)
+nothing_grew : (kind : List Entry → Type 0) (rest : Option RunRecord) → kind [] → Grows kind rest rest
+nothing_grew kind None is = tt
+nothing_grew kind (Some r) is = ([], is, ap (λ l. record r { entries = l }) (sym (append-nil r.entries)))
+
+-- ---- a group of one, or for which memory was refused
+
+pub one_added : (under : SealedUnder) (name : List ℕ) (outcome : FileOutcome) (void : List ℕ) (before after : Option RunRecord)
+    → Grows (λ new. AddsSealed under name outcome new × (void ≡ given_up_in new)) before after
+    → Grows (AddsLines under (line_of name outcome ∷ []) void) before after
+one_added under name outcome void before after grew =
+    grows_as (λ new. AddsSealed under name outcome new × (void ≡ given_up_in new)) (AddsLines under (line_of name outcome ∷ []) void) before after
+    (λ new (adds, is). (line_more (AddsSealed under) [] (line_of name outcome) [] new (no_lines under).0 adds, is)) grew
+
+refused_adds : (under : SealedUnder) (names : List (List ℕ)) → AddsFiles (AddsSealed under) (refused_lines names) []
+refused_adds under [] = (no_lines under).0
+refused_adds under (name ∷ names) =
+    let d = refused_adds under names in
+    let file : FileEntries = record { line = line_of name (Failed OutOfMemory); entries = [] } in record {
+      files = file ∷ d.files;
+      lined = ap (λ l. line_of name (Failed OutOfMemory) ∷ l) d.lined;
+      each = All-cons (λ (f : FileEntries). AddsSealed under f.line.name f.line.outcome f.entries) file d.files refl d.each;
+      joined = d.joined;
+    }
+
+pub refused_added : (under : SealedUnder) (names : List (List ℕ)) (before after : Option RunRecord) → after ≡ before
+    → Grows (AddsLines under (refused_lines names) []) before after
+refused_added under names before after same =
+    subst (Grows (AddsLines under (refused_lines names) []) before) (sym same)
+    (nothing_grew (AddsLines under (refused_lines names) []) before (refused_adds under names, refl))
+
+-- ---- groups
+
+files_append : (adds : List ℕ → FileOutcome → List Entry → Type 0) (lines more : List FileLine) (one two : List Entry)
+    → AddsFiles adds lines one → AddsFiles adds more two → AddsFiles adds (lines ++ more) (one ++ two)
+files_append adds lines more one two d e = record {
+  files = d.files ++ e.files;
+  lined = map-append (λ (f : FileEntries). f.line) d.files e.files ∙ ap₂ (λ a b. a ++ b) d.lined e.lined;
+  each = All-append (λ (f : FileEntries). adds f.line.name f.line.outcome f.entries) d.files e.files d.each e.each;
+  joined = ap₂ (λ a b. a ++ b) d.joined e.joined ∙ sym (flat_map-append (λ (f : FileEntries). f.entries) d.files e.files);
+}
 
 -- before the first file
-pub nothing_sealed : (happened : List (List FileLine) → List ℕ → Type 0) (lanes : ℕ) (operations : List Entry) (taken : Option (List ℕ)) (failures : Option ℕ) → Accounts [] [] operations → happened [] []
-    → (t : AreSealed happened lanes [] operations 0 taken taken failures failures) × All (λ (g : List FileLine). length g ≡ lanes) t.worked.groups
-nothing_sealed happened lanes operations taken failures accounts done = (
-  record {
-    worked = record {
-      groups = [];
-      few = λ k d below. absurd (omega (arith, below));
-      full = All-nil (λ (g : List FileLine). length g ≡ lanes);
-      lines = [];
-      voids = [];
-      joined = refl;
-      named = refl;
-      fitting = λ k d below. absurd (omega (arith, below));
-      told = nothing_told taken failures;
-      done = done;
-    };
-    accounts = accounts;
-  },
-  All-nil (λ (g : List FileLine). length g ≡ lanes),
-)
+pub nothing_sealed : (under : SealedUnder) (operations : List journal.Entry) (old : Printed) (rest : Option RunRecord) → Accounts [] [] operations
+    → AreSealed under [] operations 0 old old rest rest
+nothing_sealed under operations old rest accounts = record {
+  worked = record {
+    lines = [];
+    named = refl;
+    fitting = All-nil (λ (l : FileLine). IsOfSealing l.outcome);
+    told = nothing_told old.taken old.failures;
+    added = nothing_grew (AddsFiles (AddsSealed under) []) rest (no_lines under).0;
+  };
+  voids = [];
+  given_up = nothing_grew (λ added. [] ≡ given_up_in added) rest refl;
+  accounts = accounts;
+}
+
+-- one more group
+pub sealed_more : (under : SealedUnder) (earlier more : List (List ℕ)) (operations operations' : List journal.Entry) (status status' : ℕ) (old : Printed)
+    (taken taken' : Option (List ℕ)) (failures failures' : Option ℕ) (before between after : Option RunRecord)
+    → AreSealed under earlier operations status old (printed taken failures) before between
+    → AreEnded (λ lines voids. Grows (AddsLines under lines voids) between after) more [] [] operations operations' status status' taken taken' failures failures'
+    → AreSealed under (earlier ++ more) operations' status' old (printed taken' failures') before after
+sealed_more under earlier more operations operations' status status' old taken taken' failures failures' before between after s e = record {
+  worked = record {
+    lines = s.worked.lines ++ e.lines;
+    named = map-append (λ (l : FileLine). l.name) s.worked.lines e.lines ∙ ap₂ (λ a b. a ++ b) s.worked.named e.named;
+    fitting = All-append (λ (l : FileLine). IsOfSealing l.outcome) s.worked.lines e.lines s.worked.fitting e.fitting;
+    told = e.told s.worked.lines old.taken old.failures s.worked.told;
+    added = grows_on (AddsFiles (AddsSealed under) s.worked.lines) (AddsLines under e.lines e.voids) (AddsFiles (AddsSealed under) (s.worked.lines ++ e.lines))
+        (λ one two a b. files_append (AddsSealed under) s.worked.lines e.lines one two a b.0) before between after s.worked.added e.done;
+  };
+  voids = s.voids ++ e.voids;
+  given_up = grows_on (λ added. s.voids ≡ given_up_in added) (AddsLines under e.lines e.voids) (λ added. s.voids ++ e.voids ≡ given_up_in added)
+      (λ one two a b. ap₂ (λ x y. x ++ y) a b.1 ∙ sym (given_up_more one two)) before between after s.given_up e.done;
+  accounts = let_go (s.worked.lines ++ e.lines) (s.voids ++ e.voids) operations'
+      (e.accounts s.worked.lines s.voids (nothing_held s.worked.lines s.voids operations s.accounts));
+}

@@ -1,43 +1,28 @@
--- Containers that began. A number that is held was granted and settled by no seat, so no container began under it.
--- After it is settled, the folder's session holds what it held before.
-use Rattle.std.proofs.Common.{◌≡◌, ◌⊎◌, ℕ, zero, suc, ◌+◌, ◌<◌, ◌≤◌, Bool, cond, nat_eq, eq-eqb, ne_eqb, List, [], ◌∷◌, ◌++◌, length, map, count_by, refl, sym, ap, ◌∙◌, subst, ⊎_elim, arith, get_or, set, All, Vec, Global, Result, Option, None, Some, append-nil}
-use Rattle.std.specs.Prelude.{slice_get, IfSome}
-use mathlib.Core.Logic.{dite}
-use native.Mathlib.Decide.{ℕ_discrete}
+-- Numbers that a seat owes: they were granted, and settled by no seat. And what a batch returns.
+use Rattle.std.proofs.Common.{◌≡◌, ◌⊎◌, ℕ, zero, suc, ◌<◌, ◌≤◌, Bool, cond, List, [], ◌∷◌, ◌++◌, length, map, count_by, refl, sym, ap, ◌∙◌, subst, ⊎_elim, arith, get_or, set, All, Some, append-nil}
+use Rattle.std.specs.Prelude.{slice_get}
 use Rattle.std.proofs.lemmas.Option.{slice_get-get_or}
-use Rattle.std.proofs.lemmas.List.Elements.{All-nil, All-head, All-tail}
-use Rattle.std.proofs.lemmas.List.Sums.{sum_by-cons, sum_by-append}
+use Rattle.std.proofs.lemmas.List.Elements.{All-nil, All-tail}
+use Rattle.std.proofs.lemmas.List.Sums.{sum_by-append}
 use Rattle.journal_core.specs.declared.entry.Event.TheVariants.{Granted, Exhausted}
 use Rattle.journal_core.specs.declared.entry.Entry.{Entry}
-use Rattle.journal_core.specs.declared.entry.Way.{Way}
-use Rattle.journal_core.specs.declared.entry.Way.TheVariants as ended
 use Rattle.journal_core.specs.History.{grants, settles, times_granted, times_settled}
-use Rattle.journal_core.specs.Range.{IsLawfulRange, Numbers, prefix_of}
-use Rattle.sha2.specs.Sha256.{sha256}
-use Rattle.sqlite.specs.Held.{Held}
-use Rattle.sqlite_trees.specs.declared.store.Store.{Ghosts}
-use Rattle.sealing_core.specs.Piped.{HasPipedContainer}
-use Rattle.container_core.specs.declared.fault.SealFault.{SealFault}
-use Rattle.container_core.specs.Container.{container}
+use Rattle.journal_core.specs.Range.{IsLawfulRange, Numbers}
 use Rattle.container_core.specs.Shape.{ShapeView}
-use Rattle.ledger_core.specs.Shared.{LedgerView, SeatView, SpentView, GrantView, Extends, Holds, IsSameSeat, Knows, spent_as}
+use Rattle.ledger_core.specs.Shared.{LedgerView, SeatView, Extends}
 use Rattle.ledger_core.specs.Closing.{AreAllSeats, HaveMet}
 use Rattle.crew_core.specs.Batch.{AreIssued, AreOutcomes, IsOutcome, of_seat}
 use Rattle.crew_core.specs.declared.outcome.Outcome.{Outcome}
 use Rattle.crew_core.specs.declared.outcome.Outcome.TheVariants as job
-use Rattle.command_core.specs.GrantedRange as front
-use Rattle.output_core.specs.Bounds.{Admits, Allows, Bound, Container}
-use Rattle.command_core.specs.Session.{Begun, IsBoundTo, IsFree, Session, begun_as, started, times_begun, with_begun}
 use Rattle.command_core.specs.Lines.{FileLine}
-use Rattle.command_core.specs.Trace.{Does, Event}
 use Rattle.command_core.specs.declared.line.FileOutcome.{FileOutcome}
 use Rattle.command_core.specs.declared.line.FileOutcome.TheVariants.{Sealed, Opened, Good, Shown, Failed}
 use Rattle.sealer_core.specs.declared.prepare.Prepared.{Prepared}
 use Rattle.sealer_core.specs.declared.prepare.Prepared.TheVariants.{Refused, Unread, Read}
-use Rattle.sealer_core.specs.Group.{AreGrantedOnce, AreHeld, AreOwing, AreSettled, HasSettled, IsContainerUnder, IsEnding, IsMade, IsOfSeats, OwesAt, left_by}
+use Rattle.sealer_core.specs.Group.{AreGrantedOnce, AreHeld, AreOwing, IsContainerUnder, IsEnding, IsOfSeats, OwesAt, left_by}
 use Rattle.sealer_core.specs.Sealing.{operations_of}
-use Rattle.sealer_core.proofs.Groups.{counted_at, grown, issues_settles}
-use Rattle.sealer_core.proofs.Numbering.{granted_once, held_by, same_count, sum_below_zeros, whole_of_met, zero_of}
+use Rattle.sealer_core.proofs.Groups.{grown, issues_settles}
+use Rattle.sealer_core.proofs.Numbering.{granted_once, same_count, sum_below_zeros, whole_of_met}
 
 -- ---- a number that is held
 
@@ -77,42 +62,6 @@ module _ (ledger : LedgerView) (seats : List SeatView) (outcomes : List Outcome)
 
   pub owed_unsettled : AreGrantedOnce (operations_of seats) → times_settled number (operations_of seats) ≡ 0
   owed_unsettled once = let less = owed_less in let most = once.once number in omega arith
-
--- a seat that owes it holds it
-pub held_here : (ledger : LedgerView) (seat : SeatView) (spent : SpentView) (number : ℕ) {place : ℕ} → number ≡ spent.number
-    → (seat.ledger ≡ ledger.ledger) × (seat.terms ≡ ledger.terms) × (seat.number ≡ place) → Knows seat → spent.device ≡ ledger.terms.range.device
-    → times_settled spent.number seat.mine < times_granted spent.number seat.mine → front.IsHeld ledger seat number
-held_here ledger seat spent number is ours knows device owed =
-    let holds = held_by seat spent ledger.terms knows ours.1 device owed in record {
-      ours = (ours.0, ours.1);
-      knows = knows;
-      granted = subst (λ n. 0 < times_granted n seat.mine) (sym is) holds.1;
-      unsettled = ap (λ n. times_settled n seat.mine) is ∙ holds.2;
-    }
-
--- one to which it was granted just now holds it
-pub held_now : (ledger : LedgerView) (old seat : SeatView) (grant : GrantView) (number : ℕ) → number ≡ grant.number
-    → (old.ledger ≡ ledger.ledger) × (old.terms ≡ ledger.terms) → IsSameSeat old seat → Knows seat → ((way : Way) → Holds seat (spent_as grant way))
-    → front.IsHeld ledger seat number
-held_now ledger old seat grant number is ours same knows held = record {
-  ours = (same.ledger ∙ ours.0, same.terms ∙ ours.1);
-  knows = knows;
-  granted = subst (λ n. 0 < times_granted n seat.mine) (sym is) (held ended.Void).1;
-  unsettled = ap (λ n. times_settled n seat.mine) is ∙ (held ended.Void).2;
-}
-
-pub some_one : (n : ℕ) → n ≡ 1 → 0 < n
-some_one n one = omega arith
-
--- the operations of the one seat of a ledger
-one_mine : (seats : List SeatView) (w : SeatView) → length seats ≡ 1 → operations_of (set seats 0 w) ≡ w.mine
-one_mine [] w one = absurd (omega arith)
-one_mine (v ∷ []) w one = append-nil w.mine
-one_mine (v ∷ u ∷ seats) w one = absurd (omega arith)
-
-module _ (seats : List SeatView) (w : SeatView) (number : ℕ) (one : length seats ≡ 1) where
-  pub one_unsettled : times_settled number w.mine ≡ 0 → times_settled number (operations_of (set seats 0 w)) ≡ 0
-  one_unsettled none = ap (times_settled number) (one_mine seats w one) ∙ none
 
 -- ---- seats that have met
 
@@ -181,87 +130,7 @@ owing_met ledger old new outcomes same long all owing = record {
   };
 }
 
--- ---- the ledger file has the range for good
-
-pub stands_in : {S L F : Type 0} (g : Ghosts S) (kept : Held S → F) (folded : L → F) (is_folded : S → L → Type 0) (key : List ℕ) (device count : ℕ) (before file : F) (range : Numbers)
-    → IsLawfulRange range → front.FoldsARange g kept folded is_folded (sha256 key) device count before file range → front.StandsIn g kept folded is_folded key file range
-stands_in g kept folded is_folded key device count before file range lawful folds =
-    (count, before, lawful, subst (λ d. front.FoldsARange g kept folded is_folded (sha256 key) d count before file range) (sym (of_device folds)) folds)
-  where
-    of_device : front.FoldsARange g kept folded is_folded (sha256 key) device count before file range → range.device ≡ device
-    of_device (was, mid, left, old, new, reserved, lasts, by) = reserved.asked.0
-
--- ---- what a folder's session is
-
-module _ (key : List ℕ) (range : Numbers) where
-  -- no container began
-  pub settled_start : (operations : List Entry) (session : Option Session) → IfSome session (λ s. s ≡ started key range) → AreSettled key range operations session
-  settled_start operations None is = tt
-  settled_start operations (Some s) is = record {
-    of_key = ap (λ (x : Session). x.key_id) is;
-    of_range = ap (λ (x : Session). x.range) is;
-    settled = λ n some. let none = ap (λ (x : Session). times_begun n x.begun) is in absurd (omega arith);
-  }
-
-  -- numbers were settled, or none
-  pub settled_more : (operations operations' : List Entry) (session session' : Option Session) → session' ≡ session
-      → ((n : ℕ) → times_settled n operations ≤ times_settled n operations') → AreSettled key range operations session → AreSettled key range operations' session'
-  settled_more operations operations' session session' same more has = subst (AreSettled key range operations') (sym same) (go session has)
-    where
-      go : (session : Option Session) → AreSettled key range operations session → AreSettled key range operations' session
-      go None h = tt
-      go (Some s) h = record { of_key = h.of_key; of_range = h.of_range; settled = λ n some. let was = h.settled n some in let grown = more n in omega arith }
-
-  -- no container began under a number that nobody settled
-  pub is_free : (operations : List Entry) (session : Option Session) (number : ℕ) → times_settled number operations ≡ 0 → AreSettled key range operations session
-      → IfSome session (λ s. (s.key_id ≡ key) × (s.range ≡ range) × IsFree number s)
-  is_free operations None number none has = tt
-  is_free operations (Some s) number none has =
-      (has.of_key, has.of_range, zero_of (times_begun number s.begun) (λ some. let settled = has.settled number some in omega arith))
-
-  begun_cons : (n number : ℕ) (shape : ShapeView) (begun : List Begun) → times_begun n (begun_as number shape ∷ begun) ≡ cond (nat_eq n number) 1 0 + times_begun n begun
-  begun_cons n number shape begun = sum_by-cons (λ (b : Begun). cond (nat_eq n b.number) 1 0) (begun_as number shape) begun
-
-  counts : (n number : ℕ) (operations operations' : List Entry) (outcome : FileOutcome) → IsEnding number operations operations' outcome
-      → times_settled n operations' ≡ times_settled n operations + cond (nat_eq n number) 1 0
-  counts n number operations operations' (Sealed m bytes) (same, (seat, count)) = count (settles n)
-  counts n number operations operations' (Opened bytes) (seat, count) = count (settles n)
-  counts n number operations operations' (Good bytes) (seat, count) = count (settles n)
-  counts n number operations operations' (Shown bytes facts) (seat, count) = count (settles n)
-  counts n number operations operations' (Failed fault) (seat, count) = count (settles n)
-
-  -- a container began, and its number was settled
-  pub settled_begun : (operations operations' : List Entry) (session session' session'' : Option Session) (number : ℕ) (shape : ShapeView) (outcome : FileOutcome)
-      → session'' ≡ session' → IfSome session' (λ s. (was : Session) × (session ≡ Some was) × (s ≡ with_begun number shape was)) → IsEnding number operations operations' outcome
-      → AreSettled key range operations session → AreSettled key range operations' session''
-  settled_begun operations operations' session session' session'' number shape outcome same begun ending has =
-      subst (AreSettled key range operations') (sym same) (told session' begun)
-    where
-      go : (s : Session) → HasSettled key range operations s → HasSettled key range operations' (with_begun number shape s)
-      go s h = record {
-        of_key = h.of_key;
-        of_range = h.of_range;
-        settled = λ n some.
-            let count = counts n number operations operations' outcome ending in
-            let all = begun_cons n number shape s.begun in
-            dite (ℕ_discrete n number)
-            (λ same. let one : cond {A = ℕ} (nat_eq n number) 1 0 ≡ 1 = ap (λ b. cond {A = ℕ} b 1 0) (eq-eqb n number same) in omega arith)
-            (λ other.
-            let none : cond {A = ℕ} (nat_eq n number) 1 0 ≡ 0 = ap (λ b. cond {A = ℕ} b 1 0) (ne_eqb n number other) in
-            let was = h.settled n (omega arith) in omega arith);
-      }
-
-      told : (session' : Option Session) → IfSome session' (λ s. (was : Session) × (session ≡ Some was) × (s ≡ with_begun number shape was))
-          → AreSettled key range operations' session'
-      told None b = tt
-      told (Some s) (was, is, made) = subst (HasSettled key range operations') (sym made) (go was (subst (AreSettled key range operations) is has))
-
-  -- none began, and a number was settled
-  pub settled_ended : (operations operations' : List Entry) (session session' : Option Session) (number : ℕ) (outcome : FileOutcome)
-      → session' ≡ session → IsEnding number operations operations' outcome
-      → AreSettled key range operations session → AreSettled key range operations' session'
-  settled_ended operations operations' session session' number outcome same ending has =
-      settled_more operations operations' session session' same (λ n. let count = counts n number operations operations' outcome ending in omega arith) has
+-- ---- numbers that are settled, or granted
 
 -- an end grants nothing
 pub once_ended : (number : ℕ) (operations operations' : List Entry) (outcome : FileOutcome) → IsEnding number operations operations' outcome
@@ -275,57 +144,7 @@ once_ended number operations operations' outcome ending a = record { once = λ n
     go (Shown bytes facts) (seat, count) n = let g = count (grants n) in omega arith
     go (Failed fault) (seat, count) n = let g = count (grants n) in omega arith
 
--- an issue settles nothing
-pub issue_settles : (seats : List SeatView) (d w : SeatView) (number n : ℕ) → 0 < length seats → Extends (get_or seats 0 d) (Granted number) w
-    → times_settled n (operations_of (set seats 0 w)) ≡ times_settled n (operations_of seats)
-issue_settles seats d w number n some more = let (seat, count) = counted_at seats 0 d w (Granted number) some more in let s = count (settles n) in omega arith
-
-pub refusal_settles : (seats : List SeatView) (d w : SeatView) (n : ℕ) → 0 < length seats → (w ≡ get_or seats 0 d) ⊎ Extends (get_or seats 0 d) Exhausted w
-    → times_settled n (operations_of (set seats 0 w)) ≡ times_settled n (operations_of seats)
-refusal_settles seats d w n some how = ⊎_elim
-    (λ (kept : w ≡ get_or seats 0 d). ap (λ l. times_settled n (operations_of l)) (ap (set seats 0) kept ∙ set_same seats some))
-    (λ (more : Extends (get_or seats 0 d) Exhausted w). let (seat, count) = counted_at seats 0 d w Exhausted some more in let s = count (settles n) in omega arith)
-    how
-  where
-    set_same : (seats : List SeatView) → 0 < length seats → set seats 0 (get_or seats 0 d) ≡ seats
-    set_same [] some = absurd (omega arith)
-    set_same (v ∷ vs) some = refl
-
--- ---- outputs that may hold a container
-
--- an output that may hold the container of some plaintext may take that of each
-pub admits : (bound : Option Bound) (taken taken' : Option (List ℕ)) (key : List ℕ) (shape : ShapeView) (prefix prefix' plain : List ℕ)
-    → IfSome bound (IsBoundTo (λ held. Container held key shape prefix) taken) → taken' ≡ taken → prefix' ≡ prefix → Admits bound taken' (container key shape prefix' plain)
-admits None taken taken' key shape prefix prefix' plain is same named = tt
-admits (Some b) taken taken' key shape prefix prefix' plain (held, known, is) same named = (
-  held,
-  same ∙ known,
-  subst (λ (x : Bound). Allows x (held ++ container key shape prefix' plain)) (sym is)
-      (plain, ([], ap (λ p. held ++ container key shape p plain) (sym named) ∙ sym (append-nil (held ++ container key shape prefix' plain)))),
-)
-
--- an output that took nothing is still such a one
-pub made_as : (name : List ℕ) (left taken taken' : Option (List ℕ)) (one two : Option (List Event)) → taken' ≡ taken → Does (IsMade name left taken) one two
-    → Does (IsMade name left taken') one two
-made_as name left taken taken' one two same made = subst (λ t. Does (IsMade name left t) one two) (sym same) made
-
--- a stream that took nothing is still such a one
-pub pipes_as : (key : List ℕ) (shape : ShapeView) (prefix : List ℕ) (most : ℕ) (left left' : Option (List ℕ)) (failures failures' : Option ℕ) (taken mid taken' : Option (List ℕ))
-    (refusals between refusals' : Option ℕ) (result : Result ℕ SealFault) → mid ≡ taken → between ≡ refusals
-    → HasPipedContainer key shape prefix most left left' failures failures' mid taken' between refusals' result
-    → HasPipedContainer key shape prefix most left left' failures failures' taken taken' refusals refusals' result
-pipes_as key shape prefix most left left' failures failures' taken mid taken' refusals between refusals' result same also piped =
-    subst (λ t. HasPipedContainer key shape prefix most left left' failures failures' t taken' refusals refusals' result) same
-    (subst (λ r. HasPipedContainer key shape prefix most left left' failures failures' mid taken' r refusals' result) also piped)
-
 -- ---- outcomes
-
--- the container of the first one
-pub first_container : (key : List ℕ) (shape : ShapeView) (outcomes rest : List Outcome) (seat : ℕ) (bytes : Vec ℕ Global) (spent : SpentView)
-    → outcomes ≡ job.Sealed seat bytes spent ∷ rest → All (IsContainerUnder key shape) outcomes
-    → (plain : List ℕ) × (bytes.items ≡ container key shape (prefix_of spent.device spent.number) plain)
-first_container key shape outcomes rest seat bytes spent is all =
-    All-head (IsContainerUnder key shape) (job.Sealed seat bytes spent) rest (subst (All (IsContainerUnder key shape)) is all)
 
 pub none_under : (key : List ℕ) (shape : ShapeView) (outcomes : List Outcome) → outcomes ≡ [] → All (IsContainerUnder key shape) outcomes
 none_under key shape outcomes none = subst (All (IsContainerUnder key shape)) (sym none) (All-nil (IsContainerUnder key shape))

@@ -1,6 +1,7 @@
 -- Internal: how a file begins and its output ends, with one lane and with several; and what becomes of a group's files.
-use Rattle.std.specs.Prelude.{⊤, ◌≡◌, ◌≢◌, ℕ, ◌+◌, ◌<◌, ◌≤◌, Bool, false, nat_eq, if◌then◌else◌, List, [], ◌∷◌, ◌++◌}
-use Rattle.std.specs.Prelude.{drop, length, map, All, count_by, slice_get, Option, Some, IfSome, Result, Ok, Err}
+use Rattle.std.specs.Prelude.{⊤, ◌≡◌, ◌≢◌, ℕ, suc, ◌+◌, ◌<◌, ◌≤◌, Bool, true, false, nat_eq, if◌then◌else◌, List, []}
+use Rattle.std.specs.Prelude.{◌∷◌, ◌++◌, length, map, drop, All, count_by, slice_get, Option, None, Some, IfSome}
+use Rattle.std.specs.Prelude.{Result, Ok, Err}
 use Rattle.journal_core.specs.declared.entry.Entry.{Entry}
 use Rattle.journal_core.specs.declared.entry.Event.{Event}
 use Rattle.journal_core.specs.declared.entry.Event.TheVariants.{Settled}
@@ -8,109 +9,39 @@ use Rattle.journal_core.specs.declared.entry.Way.{Way}
 use Rattle.journal_core.specs.declared.entry.Way.TheVariants as ended
 use Rattle.journal_core.specs.History.{entry, times_granted, times_settled}
 use Rattle.journal_core.specs.Range.{Numbers, prefix_of}
-use Rattle.io_core.specs.Streams.{Appends, AppendsFront, Keeps}
+use Rattle.io_core.specs.Streams.{IsFront, counted}
 use Rattle.container_core.specs.Container.{container}
+use Rattle.container_core.specs.Faults.{is_failed_read}
 use Rattle.container_core.specs.Shape.{ShapeView}
-use Rattle.sha2.specs.Sha256.{sha256}
 use Rattle.container_core.specs.declared.fault.SealFault.{SealFault}
 use Rattle.container_core.specs.declared.fault.SealFault.TheVariants as sealing_fault
 use Rattle.crew_core.specs.declared.outcome.Outcome.{Outcome}
 use Rattle.crew_core.specs.declared.outcome.Outcome.TheVariants as job
-use Rattle.crew_core.specs.Batch.{of_seat, seat_of}
+use Rattle.crew_core.specs.Batch.{IsOutcome, of_seat, seat_of}
 use Rattle.ledger_core.specs.Closing.{AreAllSeats}
 use Rattle.ledger_core.specs.Shared.{LedgerView, SeatView}
-use Rattle.sealer_core.specs.declared.prepare.Prepared.{Prepared}
-use Rattle.sealer_core.specs.declared.prepare.Prepared.TheVariants.{Refused, Unread, Read}
 use Rattle.command_core.specs.declared.line.FileOutcome.{FileOutcome}
 use Rattle.command_core.specs.declared.line.FileOutcome.TheVariants.{Sealed, Failed}
 use Rattle.command_core.specs.declared.line.FileFault.{FileFault}
-use Rattle.command_core.specs.declared.line.FileFault.TheVariants.{CannotOpen, OutputExists, CannotCreate, OutOfMemory}
+use Rattle.command_core.specs.declared.line.FileFault.TheVariants.{CannotCreate, OutOfMemory, OutputExists}
 use Rattle.command_core.specs.declared.line.FileFault.TheVariants.{Unsealed}
+use Rattle.command_core.specs.Files.{AddsFiles}
+use Rattle.command_core.specs.Lines.{FileLine}
+use Rattle.command_core.specs.Putting.{once_if}
+use Rattle.command_core.specs.Work.{AreTold}
 use Rattle.folder_core.specs.declared.fault.FolderFault.{FolderFault}
 use Rattle.folder_core.specs.declared.fault.FolderFault.TheVariants as folder_fault
-use Rattle.command_core.specs.Lines.{FileLine}
-use Rattle.command_core.specs.Session.{IsNew, Session, started, times_begun}
-use Rattle.output_core.specs.Bounds.{Bound}
-use Rattle.sealer_core.specs.Sealing.{IsOfSealing, unissued_as, line_of, prepared, sealed_name, void_at}
-use Rattle.sealer_core.specs.Sealing.{FitsFault, IsClosed, operations_of, times_in, times_sealed, times_told}
-use Rattle.sealer_core.specs.Sealing.{times_voided}
-use Rattle.command_core.specs.Trace.{Discards, tape}
-use Rattle.command_core.specs.Trace as trace
-use Rattle.command_core.specs.Work.{AreTold}
-
--- ---- a file before the sealing
-
--- a fault that comes before an output is created
-abbrev pub IsUnmade : FileFault → Type 0
-IsUnmade CannotOpen = ⊤
-IsUnmade OutputExists = ⊤
-IsUnmade CannotCreate = ⊤
-IsUnmade OutOfMemory = ⊤
-IsUnmade _ = ⊥
-
-abbrev pub name_of : {W : Type 0} → Prepared W → List ℕ
-name_of (Refused name fault) = name.now
-name_of (Unread name writer fault) = name.now
-name_of (Read name writer bytes) = name.now
-
--- If no output was created, it has such a fault. If it was read, nothing can be written to its output yet.
-abbrev pub IsPrepared : {W : Type 0} → (W → Option Bound) → (W → Option (List ℕ)) → Prepared W → Type 0
-IsPrepared bound taken (Refused name fault) = IsUnmade fault
-IsPrepared bound taken (Unread name writer fault) = fault ≢ sealing_fault.TooManyChunks
-IsPrepared bound taken (Read name writer bytes) = IsNew (bound writer) (taken writer)
-
--- how many bytes it has, if it was read
-abbrev pub read_of : {W : Type 0} → Prepared W → List ℕ
-read_of (Refused name fault) = []
-read_of (Unread name writer fault) = []
-read_of (Read name writer bytes) = bytes ∷ []
-
--- ---- what happens before the sealing
-
--- its input was opened, and its output was refused
-abbrev pub IsRefused : List ℕ → FolderFault → List trace.Event → Type 0
-IsRefused name fault events = (input : List ℕ)
-    × (events ≡ trace.Reading name input ∷ trace.Refused (sealed_name name) fault ∷ [])
-
--- its input was opened, with this left to read, and its output was created, and took nothing so far
-abbrev pub IsMade : List ℕ → Option (List ℕ) → Option (List ℕ) → List trace.Event → Type 0
-IsMade name left taken events = (input : List ℕ) × (left ≡ Some input)
-    × (taken ≡ Some (tape (sealed_name name) [])) × (events ≡ prepared name input)
-
--- A folder that knows what happened, and bytes that a reader has to give: they are more than `most`.
-abbrev pub IsLonger : ℕ → Option (List trace.Event) → Option (List ℕ) → Type 0
-IsLonger most told left = IfSome told (λ _. IfSome left (λ input. most < length input))
-
--- what happens for a file whose output isn't created
-abbrev pub IsRefusal : List ℕ → FileFault → List trace.Event → Type 0
-IsRefusal name OutOfMemory events = events ≡ []
-IsRefusal name CannotOpen events = events ≡ trace.Unread name ∷ []
-IsRefusal name OutputExists events = IsRefused name folder_fault.Exists events
-IsRefusal name CannotCreate events = IsRefused name folder_fault.Failed events
-IsRefusal name _ events = ⊥
-
-module _ {W : Type 0} (taken : W → Option (List ℕ)) (most : ℕ) where
-  -- What happens for a file before the sealing, and its input if it was read: at most `most` bytes. Its output took
-  -- nothing so far.
-  abbrev pub IsBegun : Prepared W → List (List ℕ) → List trace.Event → Type 0
-  IsBegun (Refused name fault) inputs events = (inputs ≡ []) × IsRefusal name.now fault events
-  IsBegun (Unread name writer fault) inputs events =
-      (inputs ≡ []) × (taken writer ≡ Some (tape (sealed_name name.now) []))
-      × ((input : List ℕ) × FitsFault most (Unsealed fault) [] input [] × (events ≡ prepared name.now input))
-  IsBegun (Read name writer bytes) inputs events = (input : List ℕ) × (inputs ≡ input ∷ [])
-      × (bytes ≡ length input) × (length input ≤ most) × (taken writer ≡ Some (tape (sealed_name name.now) []))
-      × (events ≡ prepared name.now input)
-
-  -- the same for one more file: its input is then the last of the jobs
-  abbrev pub IsBegunWith : List (List ℕ) → List (List ℕ) → Prepared W → List trace.Event → Type 0
-  IsBegunWith jobs jobs' file events = (inputs : List (List ℕ)) × (jobs' ≡ jobs ++ inputs) × IsBegun file inputs events
-
-  -- and for all files, one after the other
-  abbrev pub AreBegun : List (Prepared W) → List (List ℕ) → List trace.Event → Type 0
-  AreBegun [] inputs events = (inputs ≡ []) × (events ≡ [])
-  AreBegun (file ∷ files) inputs events = (own : List (List ℕ)) × (others : List (List ℕ))
-      × (first : List trace.Event) × (rest : List trace.Event) × IsBegun file own first × AreBegun files others rest
-      × (inputs ≡ own ++ others) × (events ≡ first ++ rest)
+use Rattle.folder_core.specs.Changes.{Becomes, Closes, IsNew, allowed, closed_at, new_output}
+use Rattle.folder_core.specs.Growth.{with_entries}
+use Rattle.folder_core.specs.Record.{Container, Content, Created, Finished, GivenUp, Happened, Nothing, RunRecord, State}
+use Rattle.folder_core.specs.Record.{times_begun}
+use Rattle.folder_core.specs.Record as record_of
+use Rattle.sealer_core.specs.declared.context.SealContext.{SealContext}
+use Rattle.sealer_core.specs.declared.prepare.Prepared.{Prepared}
+use Rattle.sealer_core.specs.declared.prepare.Prepared.TheVariants as prepared
+use Rattle.sealer_core.specs.Sealing.{AddsSealed, IsOfSealing, IsWhyGivenUp, PutsSealed, SealedUnder, given_up_in, line_of}
+use Rattle.sealer_core.specs.Sealing.{operations_of, sealed_name, sealed_under, times_in, times_sealed, times_told}
+use Rattle.sealer_core.specs.Sealing.{times_voided, unissued_as}
 
 -- ---- between the sealing and the lines
 
@@ -172,25 +103,31 @@ abbrev pub IsEnding : ℕ → List Entry → List Entry → FileOutcome → Type
 IsEnding number old new (Sealed n bytes) = (n ≡ number) × IsCounted old new (Settled number ended.Sealed)
 IsEnding number old new _ = IsCounted old new (Settled number ended.Void)
 
--- ---- containers that began
+-- ---- the record and the ledger
 
--- It is of this key and range, and each container that began under them has a number that is settled.
-pub record HasSettled (key_id : List ℕ) (range : Numbers) (operations : List Entry) (session : Session) : Type 0 where
-  pub of_key : session.key_id ≡ key_id
-  pub of_range : session.range ≡ range
-  pub settled : (number : ℕ) → 0 < times_begun number session.begun → 0 < times_settled number operations
+-- The record is of this key and range, nothing is in hand, and each number that an output has is settled.
+pub record IsKeyed (key : List ℕ) (range : Numbers) (operations : List Entry) (r : RunRecord) : Type 0 where
+  pub keyed : r.under ≡ Some (record { key = key; range = range })
+  pub idle : r.in_hand ≡ None
+  pub settled : (number : ℕ) → 0 < times_begun number r.entries → 0 < times_settled number operations
 
--- a folder whose session is known has such a one
-abbrev pub AreSettled : List ℕ → Numbers → List Entry → Option Session → Type 0
-AreSettled key_id range operations session = IfSome session (HasSettled key_id range operations)
+-- The same of a record that may be unknown, over the range of a ledger with these seats.
+abbrev pub AreKeyed : SealContext → List SeatView → Option RunRecord → Type 0
+AreKeyed context seats rest = IfSome rest (IsKeyed context.key.now context.ledger.now.terms.range (operations_of seats))
 
--- under this key, over the range of a ledger with these seats
-abbrev pub HaveSettled : List ℕ → LedgerView → List SeatView → Option Session → Type 0
-HaveSettled key ledger seats session = AreSettled (sha256 key) ledger.terms.range (operations_of seats) session
+-- The record has this key and the range of the ledger, nothing is in hand, and no output has a number.
+pub record IsStarted (key : List ℕ) (range : Numbers) (r : RunRecord) : Type 0 where
+  pub keyed : r.under ≡ Some (record { key = key; range = range })
+  pub idle : r.in_hand ≡ None
+  pub none : (number : ℕ) → times_begun number r.entries ≡ 0
 
--- no container began yet
-abbrev pub HasStarted : List ℕ → LedgerView → Option Session → Type 0
-HasStarted key ledger session = IfSome session (λ s. s ≡ started (sha256 key) ledger.terms.range)
+abbrev pub HasStarted : SealContext → Option RunRecord → Type 0
+HasStarted context rest = IfSome rest (IsStarted context.key.now context.ledger.now.terms.range)
+
+-- what the files of a run are sealed under
+abbrev pub under_in : SealContext → SealedUnder
+under_in context = sealed_under context.key.now context.options.now.shape.now context.ledger.now.terms.range.device
+    context.options.now.max_bytes
 
 -- no number was granted twice
 pub record AreGrantedOnce (operations : List Entry) : Type 0 where
@@ -211,62 +148,193 @@ EndsBy (Ok bytes) number (Sealed n m) = (n ≡ number) × (m ≡ bytes)
 EndsBy (Ok bytes) number end = end ≡ Failed (Unsealed sealing_fault.Write)
 EndsBy (Err fault) number end = end ≡ Failed (Unsealed fault)
 
--- An output gets this container whole, and the line says this number and its byte count. Or it gets a prefix, or all of
--- it and couldn't be finished: then the file failed.
-abbrev pub IsPut : List ℕ → ℕ → ℕ → Option (List ℕ) → Option (List ℕ) → FileOutcome → Type 0
-IsPut container number bytes old new (Sealed n m) = (n ≡ number) × (m ≡ bytes) × Appends old new container
-IsPut container number bytes old new end = (end ≡ Failed (Unsealed sealing_fault.Write))
-    × AppendsFront old new container
+-- The output in hand was closed so: finished, or given up. A refused end counts as a failed write.
+abbrev pub ClosesBy : Result ℕ SealFault → FileOutcome → Option RunRecord → Option (List ℕ) → Option ℕ
+    → Option RunRecord → Type 0
+ClosesBy sealed (Sealed n m) before taken failures after = Closes Finished before taken failures after
+ClosesBy (Ok bytes) end before taken failures after = Closes GivenUp before taken (counted true failures) after
+ClosesBy (Err fault) end before taken failures after = Closes GivenUp before taken failures after
 
--- A file of `bytes` bytes ends by the first outcome. Its output gets the container that was sealed, under the number of
--- that outcome; or the file failed as the outcome says, and its output gets nothing. If there is no outcome, memory for
+-- why a file has no output
+abbrev pub uncreated_as : FolderFault → FileFault
+uncreated_as folder_fault.Exists = OutputExists
+uncreated_as folder_fault.Failed = CannotCreate
+
+-- What a reader has left is more than `most` bytes, as far as it is known.
+abbrev pub IsLonger : ℕ → Option RunRecord → Option (List ℕ) → Type 0
+IsLonger most rest left = IfSome rest (λ _. IfSome left (λ input. most < length input))
+
+-- What a reader has left is known, if the record is.
+abbrev pub IsKnownLeft : Option RunRecord → Option (List ℕ) → Type 0
+IsKnownLeft rest left = IfSome rest (λ _. (input : List ℕ) × (left ≡ Some input))
+
+-- What comes for the output of this name, of an input that a reader has left: one entry. These are its void numbers.
+abbrev pub PutsLeft : SealedUnder → List ℕ → Option (List ℕ) → FileOutcome → List ℕ → List record_of.Entry → Type 0
+PutsLeft under output left outcome void new = (input : List ℕ) × (put : record_of.Entry) × (left ≡ Some input)
+    × PutsSealed under output input outcome put × (void ≡ given_up_in (put ∷ [])) × (new ≡ put ∷ [])
+
+-- the void number of a file whose sealing was granted this number: none if the file was sealed
+abbrev pub void_at : ℕ → FileOutcome → List ℕ
+void_at number (Sealed n bytes) = []
+void_at number _ = number ∷ []
+
+-- ---- files of a group before the sealing
+
+abbrev pub name_of : {H : Type 0} → Prepared H → List ℕ
+name_of (prepared.Refused name fault) = name.now
+name_of (prepared.Unread name output fault) = name.now
+name_of (prepared.Read name output bytes) = name.now
+
+-- how many bytes it has, if it was read
+abbrev pub read_of : {H : Type 0} → Prepared H → List ℕ
+read_of (prepared.Refused name fault) = []
+read_of (prepared.Unread name output fault) = []
+read_of (prepared.Read name output bytes) = bytes ∷ []
+
+-- whether its reader failed
+abbrev pub read_failed_of : {H : Type 0} → Prepared H → Bool
+read_failed_of (prepared.Refused name fault) = false
+read_failed_of (prepared.Unread name output fault) = is_failed_read fault
+read_failed_of (prepared.Read name output bytes) = false
+
+-- its fault, if it has one, is one of sealing
+abbrev pub IsPrepared : {H : Type 0} → Prepared H → Type 0
+IsPrepared (prepared.Refused name fault) = IsOfSealing (Failed fault)
+IsPrepared (prepared.Unread name output fault) = IsOfSealing (Failed (Unsealed fault))
+IsPrepared (prepared.Read name output bytes) = ⊤
+
+-- none of these entries is an output
+abbrev pub AreEvents : List record_of.Entry → Type 0
+AreEvents [] = ⊤
+AreEvents (Created output ∷ entries) = ⊥
+AreEvents (Happened event ∷ entries) = AreEvents entries
+
+-- the entries of a file that was read and closed, while its output waits
+abbrev pub waiting_entries : List ℕ → List ℕ → Bool → List record_of.Entry
+waiting_entries name input failed = Happened (record_of.Read name input) ∷ Created (new_output (sealed_name name))
+    ∷ Happened (record_of.Closed name (once_if failed)) ∷ []
+
+module _ {H : Type 0} (at : H → ℕ) where
+  -- The output of a file of this input waits at this place. The input is among those to be sealed, or it wasn't read.
+  abbrev pub IsOfInput : ℕ → ℕ → List ℕ → Prepared H → List (List ℕ) → Type 0
+  IsOfInput most place input (prepared.Refused name fault) own = ⊥
+  IsOfInput most place input (prepared.Unread name output fault) own = (at output ≡ place) × (own ≡ [])
+      × IsWhyGivenUp most (Unsealed fault) input Nothing []
+  IsOfInput most place input (prepared.Read name output bytes) own = (at output ≡ place) × (own ≡ input ∷ [])
+      × (bytes ≡ length input) × (length input ≤ most)
+
+  -- These entries came for a file, the first at this place. If it has no output they are all.
+  abbrev pub IsWaiting : SealedUnder → Prepared H → List (List ℕ) → ℕ → List record_of.Entry → Type 0
+  IsWaiting under (prepared.Refused name fault) own place new = (own ≡ [])
+      × AddsSealed under name.now (Failed fault) new × AreEvents new
+  IsWaiting under file own place new = (input : List ℕ) × IsOfInput under.most (suc place) input file own
+      × (new ≡ waiting_entries (name_of file) input (read_failed_of file))
+
+  -- The same for files in turn, and the inputs that are to be sealed.
+  abbrev pub AreWaiting : SealedUnder → List (Prepared H) → List (List ℕ) → ℕ → List record_of.Entry → Type 0
+  AreWaiting under [] inputs place new = (inputs ≡ []) × (new ≡ [])
+  AreWaiting under (file ∷ files) inputs place new = (own : List (List ℕ)) × (others : List (List ℕ))
+      × (first : List record_of.Entry) × (rest : List record_of.Entry) × IsWaiting under file own place first
+      × AreWaiting under files others (place + length first) rest × (inputs ≡ own ++ others) × (new ≡ first ++ rest)
+
+  -- These files were prepared in turn, and the record has what came for them.
+  abbrev pub HavePrepared : SealedUnder → List (Prepared H) → List (List ℕ) → Option RunRecord → Option RunRecord → Type 0
+  HavePrepared under files inputs before after = IfSome after (λ r. (was : RunRecord) × (new : List record_of.Entry)
+      × (before ≡ Some was) × AreWaiting under files inputs (length was.entries) new × (r ≡ with_entries new was))
+
+  -- One file was, and its input, if it was read, is the last of the jobs.
+  abbrev pub HasPrepared : SealedUnder → List (List ℕ) → List (List ℕ) → Prepared H → Option RunRecord → Option RunRecord
+      → Type 0
+  HasPrepared under jobs jobs' file before after = IfSome after (λ r. (was : RunRecord) × (new : List record_of.Entry)
+      × (own : List (List ℕ)) × (before ≡ Some was) × IsWaiting under file own (length was.entries) new
+      × (jobs' ≡ jobs ++ own) × (r ≡ with_entries new was))
+
+  -- Its output, if it has one, waits.
+  abbrev pub IsNewIn : Prepared H → RunRecord → Type 0
+  IsNewIn (prepared.Refused name fault) r = ⊤
+  IsNewIn (prepared.Unread name output fault) r = IsNew (at output) r
+  IsNewIn (prepared.Read name output bytes) r = IsNew (at output) r
+
+-- ---- how a file of a group ends
+
+-- The output at this place was taken in hand and closed with these bytes, after so many failed writes.
+abbrev pub filled : ℕ → Content → State → List ℕ → ℕ → RunRecord → RunRecord
+filled place content state bytes failures r = closed_at place state bytes failures (allowed place content r)
+
+-- It was finished with all of these bytes, and the line says its number and the length of the file. Or a write failed, or
+-- the end, and it was given up with a prefix.
+abbrev pub IsPut : ℕ → Content → List ℕ → ℕ → ℕ → FileOutcome → Option RunRecord → Option RunRecord → Type 0
+IsPut place content bytes number long (Sealed n m) before after = (n ≡ number) × (m ≡ long)
+    × Becomes (filled place content Finished bytes 0) before after
+IsPut place content bytes number long end before after = (end ≡ Failed (Unsealed sealing_fault.Write))
+    × IfSome after (λ _. (held : List ℕ) × IsFront held bytes
+    × Becomes (filled place content GivenUp held 1) before after)
+
+-- The output at this place was given up, and was never in hand.
+abbrev pub IsAbandoned : ℕ → Option RunRecord → Option RunRecord → Type 0
+IsAbandoned place before after = Becomes (closed_at place GivenUp [] 0) before after
+
+-- A file of `long` bytes ends by the first outcome, and its output at this place. If there is no outcome, memory for
 -- outcomes was refused.
-abbrev pub IsEndBy : ℕ → Option (List ℕ) → Option (List ℕ) → List Outcome → FileOutcome → Type 0
-IsEndBy bytes old new [] end = (end ≡ Failed (Unsealed sealing_fault.OutOfMemory)) × Keeps old new
-IsEndBy bytes old new (job.Sealed seat container spent ∷ outcomes) end =
-    IsPut container.items spent.number bytes old new end
-IsEndBy bytes old new (job.Spoiled seat spent ∷ outcomes) end =
-    (end ≡ Failed (Unsealed sealing_fault.OutOfMemory)) × Keeps old new
-IsEndBy bytes old new (job.Unissued seat fault ∷ outcomes) end = (end ≡ Failed (unissued_as fault)) × Keeps old new
+abbrev pub IsEndBy : ℕ → ShapeView → ℕ → List Outcome → FileOutcome → Option RunRecord → Option RunRecord → Type 0
+IsEndBy place shape long [] end before after = (end ≡ Failed (Unsealed sealing_fault.OutOfMemory))
+    × IsAbandoned place before after
+IsEndBy place shape long (job.Sealed seat bytes spent ∷ outcomes) end before after =
+    IsPut place (Container spent.number shape) bytes.items spent.number long end before after
+IsEndBy place shape long (job.Spoiled seat spent ∷ outcomes) end before after =
+    (end ≡ Failed (Unsealed sealing_fault.OutOfMemory))
+    × Becomes (filled place (Container spent.number shape) GivenUp [] 0) before after
+IsEndBy place shape long (job.Unissued seat fault ∷ outcomes) end before after = (end ≡ Failed (unissued_as fault))
+    × IsAbandoned place before after
+
+-- A file ends by its own fault or, if it was read, by the first outcome.
+abbrev pub IsEndIn : {H : Type 0} → (H → ℕ) → ShapeView → List Outcome → Prepared H → FileOutcome → Option RunRecord
+    → Option RunRecord → Type 0
+IsEndIn at shape outcomes (prepared.Refused name fault) end before after = (end ≡ Failed fault) × (after ≡ before)
+IsEndIn at shape outcomes (prepared.Unread name output fault) end before after = (end ≡ Failed (Unsealed fault))
+    × IsAbandoned (at output) before after
+IsEndIn at shape outcomes (prepared.Read name output bytes) end before after =
+    IsEndBy (at output) shape bytes outcomes end before after
+
+-- the outcomes left for the files after it: a file that was read uses up the first, any other file none
+abbrev pub left_by : {H : Type 0} → Prepared H → List Outcome → List Outcome
+left_by (prepared.Refused name fault) outcomes = outcomes
+left_by (prepared.Unread name output fault) outcomes = outcomes
+left_by (prepared.Read name output bytes) outcomes = drop 1 outcomes
 
 -- the void number of the file, if it has one: that of its outcome, unless the file was sealed
 abbrev pub void_by : List Outcome → FileOutcome → List ℕ
 void_by [] end = []
-void_by (job.Sealed seat container spent ∷ outcomes) end = void_at spent.number end
+void_by (job.Sealed seat bytes spent ∷ outcomes) end = void_at spent.number end
 void_by (job.Spoiled seat spent ∷ outcomes) end = spent.number ∷ []
 void_by (job.Unissued seat fault ∷ outcomes) end = []
 
-abbrev pub void_in : {W : Type 0} → Prepared W → List Outcome → FileOutcome → List ℕ
-void_in (Refused name fault) outcomes end = []
-void_in (Unread name writer fault) outcomes end = []
-void_in (Read name writer bytes) outcomes end = void_by outcomes end
+abbrev pub void_in : {H : Type 0} → Prepared H → List Outcome → FileOutcome → List ℕ
+void_in (prepared.Refused name fault) outcomes end = []
+void_in (prepared.Unread name output fault) outcomes end = []
+void_in (prepared.Read name output bytes) outcomes end = void_by outcomes end
 
--- A file ends by its own fault or, if it was read, by the first outcome. Its output is closed accordingly.
-abbrev pub IsEndIn : {W : Type 0} → (W → Option (List ℕ)) → List Outcome → Prepared W → FileOutcome → List trace.Event
-    → Type 0
-IsEndIn taken outcomes (Refused name fault) end events = (end ≡ Failed fault) × (events ≡ [])
-IsEndIn taken outcomes (Unread name writer fault) end events =
-    (end ≡ Failed (Unsealed fault)) × Discards (taken writer) events
-IsEndIn taken outcomes (Read name writer bytes) end events =
-    (new : Option (List ℕ)) × IsEndBy bytes (taken writer) new outcomes end × IsClosed new end events
-
--- the outcomes left for the files after it: a file that was read uses up the first, any other file none
-abbrev pub left_by : {W : Type 0} → Prepared W → List Outcome → List Outcome
-left_by (Refused name fault) outcomes = outcomes
-left_by (Unread name writer fault) outcomes = outcomes
-left_by (Read name writer bytes) outcomes = drop 1 outcomes
-
--- Files end in turn: with these lines, these void numbers, and these events.
-abbrev pub IsEndOfAll : {W : Type 0} → (W → Option (List ℕ)) → List (Prepared W) → List Outcome → List FileLine → List ℕ
-    → List trace.Event → Type 0
-IsEndOfAll taken [] outcomes lines voids events = (lines ≡ []) × (voids ≡ []) × (events ≡ [])
-IsEndOfAll taken (file ∷ files) outcomes lines voids events = (end : FileOutcome) × (more : List FileLine)
-    × (others : List ℕ) × (first : List trace.Event) × (rest : List trace.Event) × IsEndIn taken outcomes file end first
-    × IsEndOfAll taken files (left_by file outcomes) more others rest
-    × (lines ≡ line_of (name_of file) end ∷ more) × (voids ≡ void_in file outcomes end ++ others)
-    × (events ≡ first ++ rest)
+-- One outcome for each of these inputs, in their order; or none for those that are left.
+abbrev pub AreLeft : SealedUnder → List (List ℕ) → List Outcome → Type 0
+AreLeft under inputs [] = ⊤
+AreLeft under [] (o ∷ outcomes) = ⊥
+AreLeft under (input ∷ inputs) (o ∷ outcomes) = IsOutcome under.key under.shape input o × HasEnded under.device o
+    × AreLeft under inputs outcomes
 
 -- ---- the lines of a group
+
+-- These entries came for the files of these lines, and these are the numbers of the outputs that were given up.
+abbrev pub AddsLines : SealedUnder → List FileLine → List ℕ → List record_of.Entry → Type 0
+AddsLines under lines voids new = AddsFiles (AddsSealed under) lines new × (voids ≡ given_up_in new)
+
+-- The record has what came for the files that have lines, and after it what came for those that wait.
+abbrev pub AreEndingIn : {H : Type 0} → (H → ℕ) → SealedUnder → List FileLine → List ℕ → List (Prepared H)
+    → List Outcome → Option RunRecord → Option RunRecord → Type 0
+AreEndingIn at under lines voids files outcomes before after = IfSome after (λ r. (was : RunRecord)
+    × (done : List record_of.Entry) × (rest : List record_of.Entry) × (inputs : List (List ℕ)) × (before ≡ Some was)
+    × AddsLines under lines voids done × AreLeft under inputs outcomes
+    × AreWaiting at under files inputs (length was.entries + length done) rest
+    × (r ≡ with_entries (done ++ rest) was))
 
 -- the lines of files for which memory was refused before anything was done with them
 abbrev pub refused_lines : List (List ℕ) → List FileLine

@@ -1,7 +1,7 @@
 pub mod Complaints
 pub mod Group
 pub mod Life
-pub mod Outputs
+pub mod Nonces
 pub mod Piping
 pub mod Restored
 pub mod Sealing

@@ -9,7 +9,7 @@ use Rattle.ranges_core.specs.Reservations.{TakenRange, Adjacent, next_of}
 use Rattle.container_core.specs.Chunks.{chunks}
 use Rattle.container_core.specs.Shape.{ShapeView, size_of}
 use Rattle.container_core.specs.Container.{header_of}
-use Rattle.sealer_core.specs.Outputs.{stream_nonces}
+use Rattle.sealer_core.specs.Nonces.{stream_nonces}
 
 -- one run
 pub data LedgerRun : Type 0 where

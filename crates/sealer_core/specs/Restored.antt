@@ -13,22 +13,21 @@ use Rattle.command_core.specs.Trace.{Event, Reading, Unread, Rewound, Closed, Cr
 use Rattle.command_core.specs.Turns.{Printed}
 use Rattle.command_core.specs.Work.{IsOfOpening, output_for}
 use Rattle.sealer_core.specs.Piping.{HasSealedStream}
-use Rattle.sealer_core.specs.Sealing.{Happened, HasSealed, sealed_name}
+use Rattle.sealer_core.specs.Sealing.{HasSealed, sealed_name, sealed_under}
 
 -- ---- a run that ended
 
--- A run of `seal_all` (its clause `run`), over a folder that reported these events.
+-- A run of `seal_all` (its clause `run`), over a folder to whose record it added these entries.
 pub record WroteFiles (key : List ℕ) (terms : Terms) (history : List Entry) : Type 0 where
   -- every `Shape` is one
   pub shape : ShapeView
   pub is_shape : IsShape shape
   pub names : List (List ℕ)
-  pub before : List Event
-  pub events : List Event
-  pub sealed : (most : ℕ) × (status : ℕ) × (old : Option (List ℕ)) × (new : Option (List ℕ)) × (failures : Option ℕ)
-      × (later : Option ℕ) × HasSealed (Happened key shape most terms.range.device (Some before)
-      (Some (before ++ events)))
-      names terms history status old new failures later
+  pub before : RunRecord
+  pub entries : List record_of.Entry
+  pub sealed : (most : ℕ) × (status : ℕ) × (old : Printed) × (new : Printed)
+      × HasSealed (sealed_under key shape terms.range.device most) names terms history status old new
+      (Some before) (Some (with_entries entries before))
 
 -- A run of `pipe_all` (its clause `run`), over a reader that had this input and a writer that took these bytes. Its
 -- line says `outcome` of it.
@@ -60,18 +59,6 @@ read_in (Created name ∷ events) = read_in events
 read_in (Refused name fault ∷ events) = read_in events
 read_in (Finished name bytes ∷ events) = read_in events
 read_in (Discarded name bytes ∷ events) = read_in events
-
--- those of the outputs that were finished
-abbrev pub finished_in : List Event → List (List ℕ)
-finished_in [] = []
-finished_in (Reading name bytes ∷ events) = finished_in events
-finished_in (Unread name ∷ events) = finished_in events
-finished_in (Rewound name failed ∷ events) = finished_in events
-finished_in (Closed name failed ∷ events) = finished_in events
-finished_in (Created name ∷ events) = finished_in events
-finished_in (Refused name fault ∷ events) = finished_in events
-finished_in (Finished name bytes ∷ events) = bytes ∷ finished_in events
-finished_in (Discarded name bytes ∷ events) = finished_in events
 
 -- the bytes of the files that were read, at first or again, in order
 abbrev pub readings_of : List record_of.Entry → List (List ℕ)
@@ -113,11 +100,12 @@ abbrev pub IsFinishedAmong : List ℕ → List ℕ → List record_of.Entry → 
 IsFinishedAmong name bytes entries = (content : Content) × (failures : ℕ)
     × IsAmong (closed_output name content bytes failures record_of.Finished) entries
 
--- A file was read as `input`, right after that its output was created, and later it was finished with `bytes`.
-abbrev pub WasSealed : List Event → List ℕ → List ℕ → List ℕ → Type 0
-WasSealed events file input bytes = (before : List Event) × (between : List Event) × (after : List Event)
-    × (events ≡ before ++ Reading file input ∷ Created (sealed_name file) ∷ between
-    ++ Finished (sealed_name file) bytes ∷ after)
+-- A file was read as `input`, and right after that its output was created, and finished with `bytes` without a failed
+-- write.
+abbrev pub WasSealed : List record_of.Entry → List ℕ → List ℕ → List ℕ → Type 0
+WasSealed entries file input bytes = (before : List record_of.Entry) × (content : Content)
+    × (after : List record_of.Entry) × (entries ≡ before ++ record_of.Happened (Read file input)
+    ∷ closed_output (sealed_name file) content bytes 0 record_of.Finished ∷ after)
 
 -- a file of this name was read, at first or again, and has these bytes
 abbrev pub IsReadingOf : List ℕ → List ℕ → record_of.Entry → Type 0

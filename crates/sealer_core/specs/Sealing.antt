@@ -1,6 +1,6 @@
 -- What `seal_all` does with a list of files, and how its lines agree with the operations of the ledger.
-use Rattle.std.specs.Prelude.{⊤, ◌≡◌, ◌≢◌, ℕ, ◌+◌, ◌-◌, ◌^◌, ◌<◌, ◌≤◌, ◌⊎◌, IsTrue, Bool, true, false, nat_eq, List, []}
-use Rattle.std.specs.Prelude.{◌∷◌, ◌++◌, count_by, slice_get, length, take, map, All, codes, Option, Some, None}
+use Rattle.std.specs.Prelude.{⊤, ◌≡◌, ◌≢◌, ℕ, ◌+◌, ◌^◌, ◌<◌, ◌≤◌, ◌⊎◌, IsTrue, Bool, true, false, nat_eq, List, []}
+use Rattle.std.specs.Prelude.{◌∷◌, ◌++◌, count_by, slice_get, length, codes, Option, Some, None}
 use Rattle.std.specs.Prelude.{flat_map}
 use Rattle.journal_core.specs.declared.entry.Entry.{Entry}
 use Rattle.journal_core.specs.declared.entry.Event.TheVariants.{Granted, Exhausted, Settled}
@@ -9,6 +9,7 @@ use Rattle.journal_core.specs.declared.terms.Terms.{Terms}
 use Rattle.journal_core.specs.History.{Legal, tally_of, times_granted}
 use Rattle.journal_core.specs.Range.{Numbers, prefix_of}
 use Rattle.container_core.specs.Container.{container}
+use Rattle.container_core.specs.Faults.{is_failed_read, is_failed_write}
 use Rattle.container_core.specs.Shape.{ShapeView}
 use Rattle.io_core.specs.Streams.{Appends, AppendsFront, IsFront, LacksSome}
 use Rattle.container_core.specs.declared.fault.SealFault.TheVariants as sealing_fault
@@ -34,12 +35,15 @@ use Rattle.command_core.specs.declared.line.FileFault.TheVariants.{CannotOpen, O
 use Rattle.command_core.specs.declared.line.FileFault.TheVariants.{NoNumber, Unsealed}
 use Rattle.command_core.specs.declared.line.FileOutcome.{FileOutcome}
 use Rattle.command_core.specs.declared.line.FileOutcome.TheVariants.{Sealed, Opened, Good, Shown, Failed}
-use Rattle.folder_core.specs.declared.fault.FolderFault.{FolderFault}
 use Rattle.folder_core.specs.declared.fault.FolderFault.TheVariants as folder_fault
+use Rattle.folder_core.specs.Growth.{Grows}
+use Rattle.folder_core.specs.Record.{Closed, Container, Content, Created, Finished, GivenUp, Happened, Nothing, Read, Refused}
+use Rattle.folder_core.specs.Record.{RunRecord, Unread}
+use Rattle.folder_core.specs.Record as record_of
 use Rattle.command_core.specs.Lines.{FileLine}
-use Rattle.command_core.specs.Trace.{Event, Does}
-use Rattle.command_core.specs.Trace as trace
-use Rattle.command_core.specs.Work.{AreTold}
+use Rattle.command_core.specs.Files.{HaveAdded}
+use Rattle.command_core.specs.Putting.{closed_output, once_if}
+use Rattle.command_core.specs.Turns.{Printed}
 
 -- ---- options
 
@@ -72,77 +76,89 @@ unissued_as issue_fault.Exhausted = NoNumber
 unissued_as issue_fault.SeatClosed = NoNumber
 unissued_as issue_fault.OutOfMemory = Unsealed sealing_fault.OutOfMemory
 
--- ---- what happens in the folder for one file
+-- ---- what comes in the record for one file
 
--- its input was read, and its output created
-abbrev pub prepared : List ℕ → List ℕ → List Event
-prepared name input = trace.Reading name input ∷ trace.Created (sealed_name name) ∷ []
+-- What files are sealed under: a key, a shape and a device. A file may have `most` bytes.
+pub record SealedUnder : Type 0 where
+  pub key : List ℕ
+  pub shape : ShapeView
+  pub device : ℕ
+  pub most : ℕ
 
--- nothing
-abbrev pub IsUnbegun : List Event → List Event → Type 0
-IsUnbegun before after = (before ≡ []) × (after ≡ [])
+abbrev pub sealed_under : List ℕ → ShapeView → ℕ → ℕ → SealedUnder
+sealed_under key shape device most = record { key = key; shape = shape; device = device; most = most }
 
--- its input was not opened
-abbrev pub IsUnopened : List ℕ → List Event → List Event → Type 0
-IsUnopened name before after = (before ≡ trace.Unread name ∷ []) × (after ≡ [])
+-- the container of a plaintext, under a number of the device
+abbrev pub container_by : SealedUnder → ℕ → List ℕ → List ℕ
+container_by under number plain = container under.key under.shape (prefix_of under.device number) plain
 
--- its input was opened, and its output was refused
-abbrev pub IsUncreated : List ℕ → FolderFault → List Event → List Event → Type 0
-IsUncreated name fault before after = (input : List ℕ)
-    × (before ≡ trace.Reading name input ∷ trace.Refused (sealed_name name) fault ∷ []) × (after ≡ [])
+-- What an output that was given up may hold, and held: nothing if it was never in hand, else a prefix of its input's
+-- container under its number.
+abbrev pub HoldsSome : SealedUnder → List ℕ → Content → List ℕ → Type 0
+HoldsSome under input Nothing held = held ≡ []
+HoldsSome under input (Container number shape) held =
+    (shape ≡ under.shape) × IsFront held (container_by under number input)
+HoldsSome under input _ held = ⊥
 
--- What an output held that was given up: nothing if no number is void, else a prefix of its input's container under the
--- void number. No output has more than one.
-abbrev pub HeldUnder : List ℕ → ShapeView → ℕ → List ℕ → List ℕ → List ℕ → Type 0
-HeldUnder key shape device input [] held = held ≡ []
-HeldUnder key shape device input (number ∷ []) held = IsFront held (container key shape (prefix_of device number) input)
-HeldUnder key shape device input (number ∷ another ∷ numbers) held = ⊥
-
--- What the fault of a file whose output was given up says of the void number, the input and what the output held. A
+-- What the fault of a file whose output was given up says of the input, and of what the output may hold, and held. A
 -- write can fail only under a number, and memory is refused before anything is written. A file is bounded by bytes, so
--- it never has too many chunks. Nothing is said of a reader that failed.
-abbrev pub FitsFault : ℕ → FileFault → List ℕ → List ℕ → List ℕ → Type 0
-FitsFault most NoNumber void input held = void ≡ []
-FitsFault most (Unsealed sealing_fault.TooLong) void input held = most < length input
-FitsFault most (Unsealed sealing_fault.TooManyChunks) void input held = ⊥
-FitsFault most (Unsealed sealing_fault.OutOfMemory) void input held = held ≡ []
-FitsFault most (Unsealed sealing_fault.Read) void input held = ⊤
-FitsFault most (Unsealed sealing_fault.Write) void input held = void ≢ []
-FitsFault most _ void input held = ⊥
+-- it never has too many chunks.
+abbrev pub IsWhyGivenUp : ℕ → FileFault → List ℕ → Content → List ℕ → Type 0
+IsWhyGivenUp most NoNumber input content held = content ≡ Nothing
+IsWhyGivenUp most (Unsealed sealing_fault.TooLong) input content held = most < length input
+IsWhyGivenUp most (Unsealed sealing_fault.OutOfMemory) input content held = held ≡ []
+IsWhyGivenUp most (Unsealed sealing_fault.Read) input content held = ⊤
+IsWhyGivenUp most (Unsealed sealing_fault.Write) input content held = content ≢ Nothing
+IsWhyGivenUp most _ input content held = ⊥
 
--- its output was given up, for the cause in its fault
-abbrev pub IsDiscarded : List ℕ → ShapeView → ℕ → ℕ → List ℕ → FileFault → List ℕ → List Event → List Event → Type 0
-IsDiscarded key shape most device name fault void before after = (input : List ℕ) × (held : List ℕ)
-    × HeldUnder key shape device input void held × FitsFault most fault void input held
-    × (before ≡ prepared name input) × (after ≡ trace.Discarded (sealed_name name) held ∷ [])
+-- whether the fault is that a write failed, or a read
+abbrev pub is_unwritten : FileFault → Bool
+is_unwritten (Unsealed fault) = is_failed_write fault
+is_unwritten _ = false
 
--- What belongs to the line of a file to be sealed under a key, in a shape, of at most `most` bytes, by a device: the
--- void number granted for it (a list of at most one), and the events before and after the files of its group are
--- sealed. With `sealed`, the output was created and finished once, and holds the container of the input read under this
--- name, under the number in the line.
-abbrev pub Sealing : List ℕ → ShapeView → ℕ → ℕ → List ℕ → FileOutcome → List ℕ → List Event → List Event → Type 0
-Sealing key shape most device name (Sealed number bytes) void before after = (input : List ℕ) × (void ≡ [])
-    × (bytes ≡ length input) × (length input ≤ most) × (before ≡ prepared name input)
-    × (after ≡ trace.Finished (sealed_name name) (container key shape (prefix_of device number) input) ∷ [])
-Sealing key shape most device name (Failed OutOfMemory) void before after = (void ≡ []) × IsUnbegun before after
-Sealing key shape most device name (Failed CannotOpen) void before after = (void ≡ []) × IsUnopened name before after
-Sealing key shape most device name (Failed OutputExists) void before after =
-    (void ≡ []) × IsUncreated name folder_fault.Exists before after
-Sealing key shape most device name (Failed CannotCreate) void before after =
-    (void ≡ []) × IsUncreated name folder_fault.Failed before after
-Sealing key shape most device name (Failed fault) void before after =
-    IsDiscarded key shape most device name fault void before after
-Sealing key shape most device name _ void before after = ⊥
+abbrev pub is_unread : FileOutcome → Bool
+is_unread (Failed (Unsealed fault)) = is_failed_read fault
+is_unread _ = false
 
--- If the file was sealed, its output was finished with what its writer reports; else it was given up with that.
-abbrev pub IsClosed : Option (List ℕ) → FileOutcome → List Event → Type 0
-IsClosed taken (Sealed number bytes) events = trace.Finishes taken events
-IsClosed taken _ events = trace.Discards taken events
+-- What comes for the output of this name, of an input that is sealed into it. With `sealed`, it was finished once, after
+-- no failed write, and holds the container of the input under the number in the line. Or it was refused, for the cause
+-- in the line. Or it was given up with a prefix of the container: after one failed write exactly where the line says
+-- that, and an end that fails is one.
+abbrev pub PutsSealed : SealedUnder → List ℕ → List ℕ → FileOutcome → record_of.Entry → Type 0
+PutsSealed under output input (Sealed number bytes) entry = (bytes ≡ length input) × (length input ≤ under.most)
+    × (entry ≡ closed_output output (Container number under.shape) (container_by under number input) 0 Finished)
+PutsSealed under output input (Failed OutputExists) entry = entry ≡ Happened (Refused output folder_fault.Exists)
+PutsSealed under output input (Failed CannotCreate) entry = entry ≡ Happened (Refused output folder_fault.Failed)
+PutsSealed under output input (Failed fault) entry = (content : Content) × (held : List ℕ)
+    × HoldsSome under input content held × IsWhyGivenUp under.most fault input content held
+    × (entry ≡ closed_output output content held (once_if (is_unwritten fault)) GivenUp)
+PutsSealed under output input _ entry = ⊥
 
--- the void number of a file whose sealing was granted this number: none if the file was sealed
-abbrev pub void_at : ℕ → FileOutcome → List ℕ
-void_at number (Sealed n bytes) = []
-void_at number _ = number ∷ []
+-- A file of this name was read, then came this for its output, and at last the file was closed: after exactly one failed
+-- read if the line says that, else after none.
+abbrev pub AddsRead : SealedUnder → List ℕ → FileOutcome → List record_of.Entry → Type 0
+AddsRead under name outcome new = (input : List ℕ) × (put : record_of.Entry) × PutsSealed under (sealed_name name) input outcome put
+    × (new ≡ Happened (Read name input) ∷ put ∷ Happened (Closed name (once_if (is_unread outcome))) ∷ [])
+
+-- What comes for a file of this name that is sealed: nothing if memory was refused before it was opened. Else it can't
+-- be opened for reading, or it is read and closed.
+abbrev pub AddsSealed : SealedUnder → List ℕ → FileOutcome → List record_of.Entry → Type 0
+AddsSealed under name (Failed OutOfMemory) new = new ≡ []
+AddsSealed under name (Failed CannotOpen) new = new ≡ Happened (Unread name) ∷ []
+AddsSealed under name outcome new = AddsRead under name outcome new
+
+-- the number of an output that was given up, if it may hold a container
+abbrev pub if_given_up : record_of.State → Content → List ℕ
+if_given_up GivenUp (Container number shape) = number ∷ []
+if_given_up _ content = []
+
+abbrev pub number_given_up : record_of.Entry → List ℕ
+number_given_up (Created output) = if_given_up output.state output.content
+number_given_up (Happened event) = []
+
+-- the numbers of all outputs that were given up
+abbrev pub given_up_in : List record_of.Entry → List ℕ
+given_up_in entries = flat_map number_given_up entries
 
 -- ---- numbers
 
@@ -242,85 +258,22 @@ abbrev pub FoldsFiles : {D F : Type 0} {g : disk.Ghosts D} → (Held (FileStore 
 FoldsFiles {g} kept folded =
     FoldsARange over_files kept folded (λ store left. AreClean g left.log left.db → AreFolded store left)
 
--- a file's line, its void number if it has one, and what happened for it before and after the files of its group were
--- sealed
-pub record Part : Type 0 where
-  pub line : FileLine
-  pub void : List ℕ
-  pub before : List Event
-  pub after : List Event
-
--- what happened for a group: before the sealing, file after file, and then what happened after it
-abbrev pub group_events : List Part → List Event
-group_events parts = flat_map (λ part. part.before) parts ++ flat_map (λ part. part.after) parts
-
--- the void numbers of a group, in the order of its files
-abbrev pub group_voids : List Part → List ℕ
-group_voids parts = flat_map (λ part. part.void) parts
-
--- These events are those of the groups of lines, one group after the other, and these numbers are void. Each line has
--- its own.
-pub record AreOfGroups (does : List ℕ → FileOutcome → List ℕ → List Event → List Event → Type 0)
-    (groups : List (List FileLine)) (voids : List ℕ) (events : List Event) : Type 0 where
-  pub parts : List (List Part)
-  pub lined : map (λ group. map (λ part. part.line) group) parts ≡ groups
-  pub each : All (λ group. All (λ part. does part.line.name part.line.outcome part.void part.before part.after) group)
-      parts
-  pub numbers : voids ≡ flat_map group_voids parts
-  pub joined : events ≡ flat_map group_events parts
-
--- What happened in the folder, if it is known, agrees with the lines of these groups and with these void numbers.
-abbrev pub Happened : List ℕ → ShapeView → ℕ → ℕ → Option (List Event) → Option (List Event) → List (List FileLine)
-    → List ℕ → Type 0
-Happened key shape most device events events' groups voids =
-    Does (AreOfGroups (Sealing key shape most device) groups voids) events events'
-
--- an output's bytes, if it holds any
-abbrev pub held_in : List ℕ → List (List ℕ)
-held_in [] = []
-held_in (byte ∷ bytes) = (byte ∷ bytes) ∷ []
-
--- the bytes of the outputs that were finished or given up, in order, of those that hold any
-abbrev pub written_in : List Event → List (List ℕ)
-written_in [] = []
-written_in (trace.Reading name bytes ∷ events) = written_in events
-written_in (trace.Unread name ∷ events) = written_in events
-written_in (trace.Rewound name failed ∷ events) = written_in events
-written_in (trace.Closed name failed ∷ events) = written_in events
-written_in (trace.Created name ∷ events) = written_in events
-written_in (trace.Refused name fault ∷ events) = written_in events
-written_in (trace.Finished name bytes ∷ events) = held_in bytes ++ written_in events
-written_in (trace.Discarded name bytes ∷ events) = held_in bytes ++ written_in events
-
--- Every file was processed, in order and in groups of `lanes`, the last of at most `lanes`. Their lines were printed,
--- and what happened agrees with the groups and with the void numbers.
-pub record AreGrouped (happened : List (List FileLine) → List ℕ → Type 0) (lanes : ℕ) (names : List (List ℕ))
-    (status : ℕ) (old new : Option (List ℕ)) (failures failures' : Option ℕ) : Type 0 where
-  pub groups : List (List FileLine)
-  pub few : All (λ group. length group ≤ lanes) groups
-  pub full : All (λ group. length group ≡ lanes) (take (length groups - 1) groups)
-  pub lines : List FileLine
+-- Files of these names were sealed, in order, and their lines printed. What was added to the record of the run, if that is
+-- known, is what belongs to each line. These operations of a ledger agree with the lines, and with the numbers of the
+-- outputs that were given up.
+pub record AreSealed (under : SealedUnder) (names : List (List ℕ)) (operations : List Entry) (status : ℕ)
+    (old new : Printed) (before after : Option RunRecord) : Type 0 where
+  pub worked : HaveAdded (λ name. IsOfSealing) (AddsSealed under) names status old new before after
   pub voids : List ℕ
-  pub joined : lines ≡ flat_map (λ group. group) groups
-  pub named : map (λ line. line.name) lines ≡ names
-  pub fitting : All (λ line. IsOfSealing line.outcome) lines
-  pub told : AreTold status lines old new failures failures'
-  pub done : happened groups voids
+  pub given_up : Grows (λ added. voids ≡ given_up_in added) before after
+  pub accounts : Accounts worked.lines voids operations
 
--- The same, and these operations of a ledger agree with the lines and the void numbers.
-pub record AreSealed (happened : List (List FileLine) → List ℕ → Type 0) (lanes : ℕ) (names : List (List ℕ))
-    (operations : List Entry) (status : ℕ) (old new : Option (List ℕ)) (failures failures' : Option ℕ) : Type 0 where
-  pub worked : AreGrouped happened lanes names status old new failures failures'
-  pub accounts : Accounts worked.lines worked.voids operations
-
--- The same, in groups of as many files as the ledger has seats, over one legal history. No number is in two lines, and
--- none is open.
-pub record HasSealed (happened : List (List FileLine) → List ℕ → Type 0) (names : List (List ℕ)) (terms : Terms)
-    (history : List Entry) (status : ℕ) (old new : Option (List ℕ)) (failures failures' : Option ℕ) : Type 0 where
-  pub worked : AreGrouped happened terms.seats names status old new failures failures'
-  pub numbered : AreNumbered terms.range worked.lines
+-- The same over one legal history. No number is in two lines, and none is open.
+pub record HasSealed (under : SealedUnder) (names : List (List ℕ)) (terms : Terms) (history : List Entry)
+    (status : ℕ) (old new : Printed) (before after : Option RunRecord) : Type 0 where
+  pub sealed : AreSealed under names history status old new before after
+  pub numbered : AreNumbered terms.range sealed.worked.lines
   pub legal : Legal terms history
-  pub accounts : Accounts worked.lines worked.voids history
   pub settled : IsSettled history
 
 -- what a journal got, if one was asked for: this text, or a proper prefix of it

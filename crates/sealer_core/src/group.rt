@@ -1,119 +1,128 @@
 //! Files sealed in groups of as many as a ledger has lanes. With one lane the file is sealed as it is read. With
 //! several, each file in turn is prepared, and those that were read are sealed side by side. Then each container in
 //! turn is written, its output finished, and its number settled.
-ghost use Rattle.std.specs.Prelude.{◌≡◌, ◌⊎◌, ℕ, Option, ◌<◌, ◌≤◌, List, [], ◌∷◌, ◌++◌, length, map, All, flat_map};
-ghost use Rattle.command_core.specs.Lines.{FileLine};
-ghost use Rattle.command_core.specs.Trace.{Does};
-ghost use Rattle.command_core.specs.Work.{AreTold};
-ghost use Rattle.journal_core.specs.History.{times_settled};
+ghost use Rattle.std.specs.Prelude.{◌≡◌, ◌⊎◌, ℕ, Option, ◌<◌, ◌≤◌, List, [], ◌∷◌, ◌++◌, length, map, flat_map};
+ghost use Rattle.std.specs.Prelude.{All, IfSome};
 ghost use Rattle.crew_core.specs.Batch.{AreOutcomes};
+ghost use Rattle.journal_core.specs.History.{times_settled};
 ghost use Rattle.ledger_core.specs.Closing.{AreAllSeats};
-ghost use Rattle.sealer_core.specs.Group.{AreEnded, AreGrantedOnce, AreHeld, AreOwing, HasStarted, HaveSettled};
-ghost use Rattle.sealer_core.specs.Group.{IsContainerUnder, IsEndIn, IsEndOfAll, IsPrepared};
-ghost use Rattle.sealer_core.specs.Group.{left_by, name_of, read_of, refused_lines, void_in};
-ghost use Rattle.sealer_core.specs.Sealing.{Accounts, AreLawful, AreSealed, Happened, IsOfSealing, line_of};
-ghost use Rattle.sealer_core.specs.Sealing.{operations_of};
+ghost use Rattle.command_core.specs.Lines.{FileLine};
+ghost use Rattle.command_core.specs.Turns.{Printed, printed};
+ghost use Rattle.command_core.specs.Work.{AreTold};
+ghost use Rattle.folder_core.specs.Growth.{Grows};
+ghost use Rattle.folder_core.specs.Record.{RunRecord};
+ghost use Rattle.sealer_core.specs.Group.{AddsLines, AreEnded, AreEndingIn, AreGrantedOnce, AreHeld, AreKeyed, AreOwing};
+ghost use Rattle.sealer_core.specs.Group.{HasStarted, IsContainerUnder, IsEndIn, IsNewIn, IsPrepared, left_by, name_of};
+ghost use Rattle.sealer_core.specs.Group.{read_of, refused_lines, under_in, void_in};
+ghost use Rattle.sealer_core.specs.Sealing.{Accounts, AreSealed, IsOfSealing, line_of, operations_of};
 
-use crate::lane::{end_output, fault_of, give_up, seal_file};
+use crate::context::SealContext;
+use crate::lane::{fault_of, seal_file};
 use crate::prepare::{Prepared, prepare_group};
-use crate::sealing::SealOptions;
-use command_core::{FileFault, FileOutcome, MAX_BYTES, Report, SealingFolder, tell};
+use crate::waiting::{put_waiting, spoil_waiting};
+use command_core::{FileFault, FileOutcome, MAX_BYTES, Report, tell};
 use container_core::{Key, SealFault, Shape};
 use crew_core::{Free, MAX_LANES, Outcome, seal_batch};
-use ledger_core::{Failed, Ledger, Seat};
-use output_core::put_all;
+use folder_core::Folder;
+use ledger_core::{Ledger, Seat};
 use std::alloc::Global;
 use std::collections::VecDeque;
 use std::sync::Wait;
 use std::thread::Threads;
 
-// Ends one file of a group by its own fault or, if it was read, by the next outcome. If it was sealed, its container
-// may begin and is written. If no outcome is left, memory for outcomes was refused.
-fn end_file<F: SealingFolder>(
-    key: &Key,
-    shape: &Shape,
-    ledger: &Ledger,
+// Ends one file of a group by its own fault or, if it was read, by the next outcome. If it was sealed, its output is
+// taken in hand and its container written. If no outcome is left, memory for outcomes was refused.
+fn end_file<F: Folder>(
+    context: &SealContext<'_>,
     seats: &mut [Seat],
     folder: &mut F,
-    file: Prepared<F::Writer>,
+    file: Prepared<F::Handle>,
     outcomes: &mut VecDeque<Outcome>,
 ) -> FileOutcome
-    requires owing { AreOwing ledger.now seats.old outcomes.old.items }
-    requires prepared { IsPrepared F.Writer.bound F.Writer.taken file }
-    requires containers { All (IsContainerUnder key.now shape.now) outcomes.old.items }
+    requires owing { AreOwing context.now.ledger.now seats.old outcomes.old.items }
+    requires prepared { IsPrepared file }
+    requires containers { All (IsContainerUnder context.now.key.now context.now.options.now.shape.now) outcomes.old.items }
     requires once { AreGrantedOnce (operations_of seats.old) }
-    requires session { HaveSettled key.now ledger.now seats.old (F.session folder.old) }
-    ensures owing { AreOwing ledger.now seats.new outcomes.new.items }
+    requires keyed { AreKeyed context.now seats.old (F.rest folder.old) }
+    requires waits { IfSome (F.rest folder.old) (IsNewIn F.Handle.at file) }
+    ensures owing { AreOwing context.now.ledger.now seats.new outcomes.new.items }
     ensures once { AreGrantedOnce (operations_of seats.new) }
-    ensures session { HaveSettled key.now ledger.now seats.new (F.session folder.new) }
+    ensures keyed { AreKeyed context.now seats.new (F.rest folder.new) }
     ensures outcome { IsOfSealing result }
     ensures next { outcomes.new.items ≡ left_by file.entry outcomes.old.items }
-    ensures end { Does (IsEndIn F.Writer.taken outcomes.old.items file.entry result) (F.told folder.old)
-        (F.told folder.new) }
+    ensures end { IsEndIn F.Handle.at context.now.options.now.shape.now outcomes.old.items file.entry result
+        (F.rest folder.old) (F.rest folder.new) }
     ensures accounts { (lines : List FileLine) (voids : List ℕ)
         → AreHeld lines voids outcomes.old.items (operations_of seats.old)
         → AreHeld (lines ++ line_of (name_of file.entry) result ∷ [])
         (voids ++ void_in file.entry outcomes.old.items result) outcomes.new.items (operations_of seats.new) }
 {
-    let (mut writer, long) = match file {
+    let (output, long) = match file {
         Prepared::Refused(_, fault) => return FileOutcome::Failed(fault),
-        Prepared::Unread(_, writer, fault) => {
-            return give_up(folder, writer, FileFault::Unsealed(fault));
+        Prepared::Unread(_, output, fault) => {
+            let _ = folder.abandon(output);
+            return FileOutcome::Failed(FileFault::Unsealed(fault));
         }
-        Prepared::Read(_, writer, bytes) => (writer, bytes),
+        Prepared::Read(_, output, bytes) => (output, bytes),
     };
     match outcomes.pop_front() {
         Some(Outcome::Sealed { seat, bytes, spent }) => {
-            let (holder, number) = (&seats[seat as usize], spent.number());
-            // It shows that the seat has a legal history.
-            let _legal = holder.number();
-            folder.allow_container(&mut writer, ledger, holder, number, key, shape);
-            let sealed = match put_all(&mut writer, bytes.as_slice()) {
-                Ok(()) => Ok(long),
-                Err(Failed) => Err(SealFault::Write),
-            };
-            end_output(ledger, seats, seat, spent, folder, writer, sealed)
+            put_waiting(
+                context,
+                seats,
+                folder,
+                output,
+                seat,
+                spent,
+                long,
+                bytes.as_slice(),
+            )
         }
         Some(Outcome::Spoiled { seat, spent }) => {
-            let spoiled = Err(SealFault::OutOfMemory);
-            end_output(ledger, seats, seat, spent, folder, writer, spoiled)
+            spoil_waiting(context, seats, folder, output, seat, spent)
         }
-        Some(Outcome::Unissued { fault, .. }) => give_up(folder, writer, fault_of(fault)),
-        None => give_up(folder, writer, FileFault::Unsealed(SealFault::OutOfMemory)),
+        Some(Outcome::Unissued { fault, .. }) => {
+            let _ = folder.abandon(output);
+            FileOutcome::Failed(fault_of(fault))
+        }
+        None => {
+            let _ = folder.abandon(output);
+            FileOutcome::Failed(FileFault::Unsealed(SealFault::OutOfMemory))
+        }
     }
 }
 
 // Ends the files of a group in turn, with a line for each. Returns the status so far.
-fn end_group<F: SealingFolder, L: Report>(
-    alloc: Global,
-    key: &Key,
-    shape: &Shape,
-    ledger: &Ledger,
+fn end_group<F: Folder, L: Report>(
+    context: &SealContext<'_>,
     seats: &mut [Seat],
     folder: &mut F,
     lines: &mut L,
     start: u8,
-    mut files: VecDeque<Prepared<F::Writer>>,
+    mut files: VecDeque<Prepared<F::Handle>>,
     mut outcomes: VecDeque<Outcome>,
 ) -> u8
-    requires owing { AreOwing ledger.now seats.old outcomes.items }
-    requires prepared { All (IsPrepared F.Writer.bound F.Writer.taken) files.items }
+    requires owing { AreOwing context.now.ledger.now seats.old outcomes.items }
+    requires prepared { All IsPrepared files.items }
     requires few { length outcomes.items ≤ length (flat_map read_of files.items) }
-    requires containers { All (IsContainerUnder key.now shape.now) outcomes.items }
+    requires containers { All (IsContainerUnder context.now.key.now context.now.options.now.shape.now) outcomes.items }
     requires once { AreGrantedOnce (operations_of seats.old) }
-    requires session { HaveSettled key.now ledger.now seats.old (F.session folder.old) }
-    ensures owing { AreOwing ledger.now seats.new [] }
-    ensures session { HaveSettled key.now ledger.now seats.new (F.session folder.new) }
-    ensures ended { AreEnded (λ lines voids. Does (IsEndOfAll F.Writer.taken files.entry.items outcomes.items lines
-        voids) (F.told folder.old) (F.told folder.new)) (map name_of files.entry.items) outcomes.items []
-        (operations_of seats.old) (operations_of seats.new) start result
-        (L.taken lines.old) (L.taken lines.new) (L.failures lines.old) (L.failures lines.new) }
+    requires keyed { AreKeyed context.now seats.old (F.rest folder.old) }
+    requires waits { (before : Option RunRecord)
+        × AreEndingIn F.Handle.at (under_in context.now) [] [] files.items outcomes.items before (F.rest folder.old) }
+    ensures owing { AreOwing context.now.ledger.now seats.new [] }
+    ensures keyed { AreKeyed context.now seats.new (F.rest folder.new) }
+    ensures ended { AreEnded (λ lines voids. (before : Option RunRecord)
+        → AreEndingIn F.Handle.at (under_in context.now) [] [] files.entry.items outcomes.items before
+        (F.rest folder.old) → Grows (AddsLines (under_in context.now) lines voids) before (F.rest folder.new))
+        (map name_of files.entry.items) outcomes.items [] (operations_of seats.old) (operations_of seats.new)
+        start result (L.taken lines.old) (L.taken lines.new) (L.failures lines.old) (L.failures lines.new) }
 {
     let mut status = start;
     while let Some(file) = files.pop_front() {
         let name = file.name();
-        let outcome = end_file(key, shape, ledger, seats, folder, file, &mut outcomes);
-        status = tell(alloc, lines, status, name, outcome);
+        let outcome = end_file(context, seats, folder, file, &mut outcomes);
+        status = tell(context.alloc, lines, status, name, outcome);
     }
     status
 }
@@ -201,84 +210,77 @@ struct Kept {
 
 // Seals the files of a group, at most as many as there are seats. What is read goes into the memory that was kept.
 // Returns the status so far.
-fn seal_group<T: Threads + Wait + Sync, F: SealingFolder, L: Report>(
+fn seal_group<T: Threads + Wait + Sync, F: Folder, L: Report>(
     rt: &T,
-    alloc: Global,
-    key: &Key,
-    ledger: &Ledger,
+    context: &SealContext<'_>,
     seats: &mut [Seat],
     folder: &mut F,
-    options: &SealOptions,
     names: &[&str],
     kept: &mut Kept,
     lines: &mut L,
     status: u8,
 ) -> u8
-    requires owing { AreOwing ledger.now seats.old [] }
+    requires owing { AreOwing context.now.ledger.now seats.old [] }
     requires lanes { length seats.old ≤ MAX_LANES }
-    requires options { AreLawful options.now }
     requires few { (0 < length names.now) × (length names.now ≤ length seats.old) }
-    requires session { HaveSettled key.now ledger.now seats.old (F.session folder.old) }
-    ensures owing { AreOwing ledger.now seats.new [] }
-    ensures session { HaveSettled key.now ledger.now seats.new (F.session folder.new) }
-    ensures group { AreEnded (λ lines. Happened key.now options.now.shape.now options.now.max_bytes
-        ledger.now.terms.range.device (F.told folder.old) (F.told folder.new) (lines ∷ []))
-        (map (λ name. name.now) names.now) [] [] (operations_of seats.old) (operations_of seats.new) status result
-        (L.taken lines.old) (L.taken lines.new) (L.failures lines.old) (L.failures lines.new) }
+    requires keyed { AreKeyed context.now seats.old (F.rest folder.old) }
+    ensures owing { AreOwing context.now.ledger.now seats.new [] }
+    ensures keyed { AreKeyed context.now seats.new (F.rest folder.new) }
+    ensures group { (earlier : List (List ℕ)) (old : Printed) (before : Option RunRecord)
+        → AreSealed (under_in context.now) earlier (operations_of seats.old) status old
+        (printed (L.taken lines.old) (L.failures lines.old)) before (F.rest folder.old)
+        → AreSealed (under_in context.now) (earlier ++ map (λ name. name.now) names.now) (operations_of seats.new) result
+        old (printed (L.taken lines.new) (L.failures lines.new)) before (F.rest folder.new) }
 {
     if seats.len() == 1 {
         let name = names[0];
-        let block = &mut kept.block;
-        let outcome = seal_file(rt, alloc, key, ledger, seats, folder, options, name, block);
-        return tell(alloc, lines, status, name, outcome);
+        let outcome = seal_file(rt, context, seats, folder, name, &mut kept.block);
+        return tell(context.alloc, lines, status, name, outcome);
     }
-    let Ok((files, jobs)) = prepare_group(alloc, folder, names, options.max_bytes, &mut kept.texts)
-    else {
-        return refuse_group(alloc, names, lines, status);
+    let Ok((files, jobs)) = prepare_group(context, folder, names, &mut kept.texts) else {
+        return refuse_group(context.alloc, names, lines, status);
     };
-    let (texts, shape) = (jobs.as_slice(), options.shape);
-    let outcomes = seal_jobs(rt, alloc, key, ledger, seats, texts, shape);
+    let SealContext {
+        alloc,
+        key,
+        ledger,
+        options,
+    } = *context;
+    let texts = jobs.as_slice();
+    let outcomes = seal_jobs(rt, alloc, key, ledger, seats, texts, options.shape);
     kept.texts = jobs;
     meet_seats(ledger, seats);
-    end_group(
-        alloc, key, shape, ledger, seats, folder, lines, status, files, outcomes,
-    )
+    end_group(context, seats, folder, lines, status, files, outcomes)
 }
 
 /// Seals the files in groups of as many as there are seats, with a line for each. Returns the status so far.
-pub(crate) fn seal_groups<T: Threads + Wait + Sync, F: SealingFolder, L: Report>(
+pub(crate) fn seal_groups<T: Threads + Wait + Sync, F: Folder, L: Report>(
     rt: &T,
-    alloc: Global,
-    key: &Key,
-    ledger: &Ledger,
+    context: &SealContext<'_>,
     seats: &mut [Seat],
     folder: &mut F,
-    options: &SealOptions,
     lines: &mut L,
 ) -> u8
-    requires all { AreAllSeats ledger.now seats.old }
+    requires all { AreAllSeats context.now.ledger.now seats.old }
     requires lanes { (0 < length seats.old) × (length seats.old ≤ MAX_LANES) }
-    requires options { AreLawful options.now }
     requires fresh { operations_of seats.old ≡ [] }
-    requires session { HasStarted key.now ledger.now (F.session folder.old) }
-    ensures all { AreAllSeats ledger.now seats.new }
-    ensures sealed { AreSealed (Happened key.now options.now.shape.now options.now.max_bytes
-        ledger.now.terms.range.device (F.told folder.old) (F.told folder.new)) (length seats.old)
-        (map (λ name. name.now) options.now.files.now) (operations_of seats.new) result
-        (L.taken lines.old) (L.taken lines.new) (L.failures lines.old) (L.failures lines.new) }
+    requires started { HasStarted context.now (F.rest folder.old) }
+    ensures all { AreAllSeats context.now.ledger.now seats.new }
+    ensures sealed { AreSealed (under_in context.now) (map (λ name. name.now) context.now.options.now.files.now)
+        (operations_of seats.new) result (printed (L.taken lines.old) (L.failures lines.old))
+        (printed (L.taken lines.new) (L.failures lines.new)) (F.rest folder.old) (F.rest folder.new) }
 {
+    let files = context.options.files;
     let mut status = 0;
     let mut done = 0;
     let mut kept = Kept {
-        texts: Vec::new(alloc),
-        block: Vec::new(alloc),
+        texts: Vec::new(context.alloc),
+        block: Vec::new(context.alloc),
     };
-    while done < options.files.len() {
-        let (_, rest) = options.files.split_at(done);
+    while done < files.len() {
+        let (_, rest) = files.split_at(done);
         let (group, _) = rest.split_at(rest.len().min(seats.len()));
-        status = seal_group(
-            rt, alloc, key, ledger, seats, folder, options, group, &mut kept, lines, status,
-        );
+        status = seal_group(rt, context, seats, folder, group, &mut kept, lines, status);
         done += group.len();
     }
     status

@@ -1,11 +1,12 @@
 //! The sealer as a library: what the commands do, but `ledger` and `show`, over any reader and any writer.
 //!
 //! `seal_all` and `pipe_all` are here, with the theorems over their runs (`theorem`). The engines are in `sealing_core`
-//! and `opening_core`. `command_core` has `open_all`, `verify_all`, `unpipe_all`, and the folders and lines of all
-//! commands. `reserve_core` has the keeper of the ledger file, and its witness. `laws` are on the life of a ledger
+//! and `opening_core`. `command_core` has `open_all`, `verify_all`, `unpipe_all` and the lines of all commands,
+//! `folder_core` their folders. `reserve_core` has the keeper of the ledger file, and its witness. `laws` are on the life of a ledger
 //! file, and on outputs.
 #![tactic(auto)]
 
+mod context;
 mod ending;
 mod group;
 mod lane;
@@ -16,6 +17,7 @@ pub mod runs;
 pub mod sealing;
 pub mod theorem;
 mod trouble;
+mod waiting;
 
 pub use crate::piping::{PipeOptions, pipe_all};
 pub use crate::sealing::{SealOptions, seal_all};

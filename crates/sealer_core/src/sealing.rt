@@ -2,8 +2,8 @@
 //!
 //! A range is reserved for good before any file is touched, and is in the ledger file itself, so a number that a run
 //! didn't use is given up. Files are sealed in turn with one lane, or in groups with several.
-ghost use Rattle.std.specs.Prelude.{◌≡◌, ◌≢◌, ◌⊎◌, ℕ, Bool, ◌<◌, ◌≤◌, List, length, map, IsTrue, IfOk, OnErr, is_ok};
-ghost use Rattle.std.specs.Prelude.{if◌then◌else◌, IfSome, []};
+ghost use Rattle.std.specs.Prelude.{◌≡◌, ◌≢◌, ◌⊎◌, ℕ, Bool, ◌<◌, ◌≤◌, List, length, map, IfOk, is_ok};
+ghost use Rattle.std.specs.Prelude.{if◌then◌else◌, IfSome, [], option_map};
 ghost use Rattle.sha2.specs.Sha256.{sha256};
 ghost use Rattle.sqlite.specs.Held.{Held, state};
 ghost use Rattle.journal_core.specs.declared.entry.Entry.{Entry};
@@ -16,15 +16,21 @@ ghost use Rattle.command_core.specs.Printing.{Complains};
 ghost use Rattle.command_core.specs.GrantedRange.{StandsIn};
 ghost use Rattle.reserve_core.specs.Lasting.{StillLast};
 ghost use Rattle.reserve_core.specs.Witness.{IsWitnessed};
-ghost use Rattle.sealer_core.specs.Sealing.{AppendsOnce, AreLawful, CrashesAround, FoldsARange, Happened, HasSealed};
-ghost use Rattle.sealer_core.specs.Sealing.{IsReserved, IsWritten, ReservesOnce};
+ghost use Rattle.folder_core.specs.Changes.{Becomes, IsUnstarted, started};
+ghost use Rattle.command_core.specs.Turns.{printed};
+ghost use Rattle.sealer_core.specs.Group.{IsStarted};
+ghost use Rattle.sealer_core.specs.Sealing.{AppendsOnce, AreLawful, AreSealed, CrashesAround, FoldsARange, HasSealed};
+ghost use Rattle.sealer_core.specs.Sealing.{IsReserved, IsWritten, ReservesOnce, operations_of, sealed_under};
 
+use crate::context::SealContext;
 use crate::ending::end_ledger;
 use crate::group::seal_groups;
 use crate::trouble::{RunFault, complain};
 use command_core::{MAX_BYTES, Outs, Report, SealingFolder};
 use container_core::{Key, Shape};
 use crew_core::{MAX_LANES, MAX_WINDOW, MAX_WORKERS};
+use folder_core::Folder;
+use folder_core::laws::no_number_without_a_key;
 use ledger_core::{Device, Ledger, Range, Seat};
 use reserve_core::{Fold, Keeper, LedgerFile, ReserveFault, Unrecorded, Witness};
 use sqlite::Alter;
@@ -141,9 +147,64 @@ pub(crate) fn open_ledger<S: Fold, N: Witness>(
     }
 }
 
+// Seals the files with the seats of a new ledger, after the folder's record got its key.
+fn seal_started<T: Threads + Wait + Sync, F: Folder, W: Report>(
+    rt: &T,
+    alloc: Global,
+    key: &Key,
+    ledger: &Ledger,
+    seats: &mut [Seat],
+    folder: &mut F,
+    options: &SealOptions,
+    lines: &mut W,
+) -> u8
+    requires all { AreAllSeats ledger.now seats.old }
+    requires lanes { (0 < length seats.old) × (length seats.old ≤ MAX_LANES) }
+    requires fresh { operations_of seats.old ≡ [] }
+    requires options { AreLawful options.now }
+    requires started { IfSome (F.rest folder.old) (IsStarted key.now ledger.now.terms.range) }
+    ensures all { AreAllSeats ledger.now seats.new }
+    ensures sealed { AreSealed (sealed_under key.now options.now.shape.now ledger.now.terms.range.device
+        options.now.max_bytes) (map (λ name. name.now) options.now.files.now) (operations_of seats.new) result
+        (printed (W.taken lines.old) (W.failures lines.old)) (printed (W.taken lines.new) (W.failures lines.new))
+        (F.rest folder.old) (F.rest folder.new) }
+{
+    let context = SealContext {
+        alloc,
+        key,
+        ledger,
+        options,
+    };
+    seal_groups(rt, &context, seats, folder, lines)
+}
+
+// Gives the folder's record the key and the range of the ledger. No output in it has a number.
+fn start_folder<S: Fold, F: SealingFolder>(
+    file: &LedgerFile<S>,
+    key: &Key,
+    ledger: &Ledger,
+    folder: &mut F,
+)
+    requires stands { StandsIn S.Store LedgerFile.Kept LedgerFile.Folded S.is_folded key.now file.now
+        ledger.now.terms.range }
+    requires unstarted { IfSome (F.rest folder.old) IsUnstarted }
+    ensures began { Becomes (started key.now ledger.now.terms.range) (F.rest folder.old) (F.rest folder.new) }
+    ensures started { IfSome (F.rest folder.new) (IsStarted key.now ledger.now.terms.range) }
+{
+    no_number_without_a_key();
+    folder.start(file, key, ledger);
+}
+
 // Seals the files over a new ledger, and ends it. The ledger file has all numbers of its range for good. Returns the
 // status of the lines, and how the ledger ended.
-fn work_ledger<T: Threads + Wait + Sync, S: Fold, F: SealingFolder, W: Report, J: Report>(
+fn work_ledger<
+    T: Threads + Wait + Sync,
+    S: Fold,
+    F: SealingFolder,
+    L: Report + Drop,
+    E: Report + Drop,
+    J: Report + Drop,
+>(
     rt: &T,
     alloc: Global,
     key: &Key,
@@ -152,8 +213,7 @@ fn work_ledger<T: Threads + Wait + Sync, S: Fold, F: SealingFolder, W: Report, J
     mut seats: Vec<Seat>,
     folder: &mut F,
     options: &SealOptions,
-    lines: &mut W,
-    journal: &mut Option<J>,
+    out: &mut Outs<L, E, J>,
 ) -> (u8, Result<(), RunFault>)
     requires stands { StandsIn S.Store LedgerFile.Kept LedgerFile.Folded S.is_folded key.now file.now
         ledger.terms.range }
@@ -162,18 +222,22 @@ fn work_ledger<T: Threads + Wait + Sync, S: Fold, F: SealingFolder, W: Report, J
         × (ledger.terms.seats ≡ options.now.lanes) }
     requires fresh { seats.items ≡ fresh_seats ledger.ledger ledger.terms options.now.lanes }
     requires options { AreLawful options.now }
-    requires idle { IfSome (F.session folder.old) (λ session. session.begun ≡ []) }
-    ensures { (history : List Entry)
-        × HasSealed (Happened key.now options.now.shape.now options.now.max_bytes ledger.terms.range.device
-        (F.told folder.old) (F.told folder.new)) (map (λ name. name.now) options.now.files.now)
-        ledger.terms history result.0
-        (W.taken lines.old) (W.taken lines.new) (W.failures lines.old) (W.failures lines.new)
-        × IsWritten J.taken (journal_text ledger.terms history) (is_ok result.1) journal.old journal.new }
+    requires unstarted { IfSome (F.rest folder.old) IsUnstarted }
+    ensures sealed { (history : List Entry)
+        × HasSealed (sealed_under key.now options.now.shape.now ledger.terms.range.device options.now.max_bytes)
+        (map (λ name. name.now) options.now.files.now) ledger.terms history result.0
+        (printed (L.taken out.old.lines) (L.failures out.old.lines))
+        (printed (L.taken out.new.lines) (L.failures out.new.lines))
+        (option_map (started key.now ledger.terms.range) (F.rest folder.old)) (F.rest folder.new)
+        × IsWritten J.taken (journal_text ledger.terms history) (is_ok result.1)
+        out.old.journal out.new.journal }
+    ensures faults { out.new.faults ≡ out.old.faults }
 {
-    folder.start(file, key, &ledger);
+    start_folder(file, key, &ledger, folder);
     let all = seats.as_mut_slice();
-    let told = seal_groups(rt, alloc, key, &ledger, all, folder, options, lines);
-    (told, end_ledger(alloc, ledger, seats, journal))
+    let lines = &mut out.lines;
+    let told = seal_started(rt, alloc, key, &ledger, all, folder, options, lines);
+    (told, end_ledger(alloc, ledger, seats, &mut out.journal))
 }
 
 /// Seals each file to its name and `.stm`, which must not exist yet, in the options' shape and under its own number. A
@@ -194,8 +258,8 @@ fn work_ledger<T: Threads + Wait + Sync, S: Fold, F: SealingFolder, W: Report, J
 /// up. Before the first file is opened the ledger file is folded, so it has the range without its log. After that it
 /// has no keeper, and a further run opens it anew. Nobody else may write the ledger file. No copied or restored ledger
 /// file may be used again with the same key and device: a witness, if there is one (else `Unwitnessed`), allows no
-/// range below the numbers that it saw, and has recorded this one before a file is touched. A folder that knows which
-/// containers began in it serves one run.
+/// range below the numbers that it saw, and has recorded this one before a file is touched. A folder that keeps a record
+/// serves one run.
 pub fn seal_all<
     T: Threads + Wait + Sync,
     S: Fold,
@@ -219,7 +283,8 @@ pub fn seal_all<
     requires window { (0 < options.now.window) × (options.now.window ≤ MAX_WINDOW) }
     requires lanes { (0 < options.now.lanes) × (options.now.lanes ≤ MAX_LANES) }
     requires max_bytes { options.now.max_bytes ≤ MAX_BYTES }
-    requires idle { IfSome (F.session folder.old) (λ session. session.begun ≡ []) }
+    // The folder's record has no key yet, and nothing is in hand.
+    requires unstarted { IfSome (F.rest folder.old) IsUnstarted }
     ensures status { result ≤ 2 }
     // No file was touched; or the files were sealed over a range that was reserved. The ledger file has that range
     // without its log; one legal history is in the journal.
@@ -230,10 +295,11 @@ pub fn seal_all<
         (length options.now.files.now) file.old file.new range
         × IsLawfulRange range
         × IsWitnessed (N.floor witness.old) (N.recorded witness.old) (N.recorded witness.new) range
-        × HasSealed (Happened key.now options.now.shape.now options.now.max_bytes range.device
-        (F.told folder.old) (F.told folder.new))
+        × HasSealed (sealed_under key.now options.now.shape.now range.device options.now.max_bytes)
         (map (λ name. name.now) options.now.files.now) (terms_of range options.now.lanes) history told
-        (L.taken out.old.lines) (L.taken out.new.lines) (L.failures out.old.lines) (L.failures out.new.lines)
+        (printed (L.taken out.old.lines) (L.failures out.old.lines))
+        (printed (L.taken out.new.lines) (L.failures out.new.lines))
+        (option_map (started key.now range) (F.rest folder.old)) (F.rest folder.new)
         × IsWritten J.taken (journal_text (terms_of range options.now.lanes) history) written
         out.old.journal out.new.journal
         × (result ≡ (if written then told else 2))) }
@@ -256,10 +322,7 @@ pub fn seal_all<
             return TROUBLE;
         }
     };
-    let (lines, journal) = (&mut out.lines, &mut out.journal);
-    let (told, ended) = work_ledger(
-        rt, alloc, key, file, ledger, seats, folder, options, lines, journal,
-    );
+    let (told, ended) = work_ledger(rt, alloc, key, file, ledger, seats, folder, options, out);
     match ended {
         Ok(()) => told,
         Err(fault) => {

@@ -151,7 +151,6 @@ fn status_over<R: AllocGlobal + Threads + Clock + Wait + Sync, S: Fold>(
     case: &Case,
     out: &mut MemoryOuts,
 ) -> Option<u8> {
-    folder.end_session();
     match case.work {
         Work::Seal { workers, lanes } => seal_over(
             rt,

@@ -1,11 +1,11 @@
 //! A folder in memory. Its calls and those of its readers and writers are counted together, and the one with a given
 //! number fails. Other inputs and outputs of the tests share the count.
 use container_core::{Header, Key, Shape};
-use folder_core::{Folder, OpeningFolder, Outputs, Whole};
-use folder_memory::{MemoryFolder, MemoryHandle, MemoryReader, MemoryWriter};
-use ledger_core::{Failed, Ledger, Seat, Sink, Source};
-use reserve_core::Fold;
-use sealer_core::{Folder as TracedFolder, FolderFault, LedgerFile, SealingFolder};
+use folder_core::{Folder, FolderFault, OpeningFolder, Outputs, Whole};
+use folder_memory::{MemoryFolder, MemoryHandle, MemoryReader};
+use ledger_core::{Failed, Ledger, Source};
+use reserve_core::{Fold, LedgerFile};
+use sealer_core::SealingFolder;
 use std::sync::atomic::{AtomicU64, Ordering};
 
 /// What a failing call does.
@@ -125,75 +125,6 @@ pub(crate) struct FailingReader<'a> {
     calls: &'a Calls,
 }
 
-/// A writer of such a folder.
-#[derive(Drop)]
-pub(crate) struct FailingWriter<'a> {
-    writer: MemoryWriter,
-    calls: &'a Calls,
-}
-
-impl<'a> TracedFolder for Failing<'a> {
-    type Reader = FailingReader<'a>;
-
-    type Writer = FailingWriter<'a>;
-
-    fn open(&mut self, name: &str) -> Result<FailingReader<'a>, FolderFault> {
-        match Folder::open(self, name) {
-            Ok(reader) => Ok(reader),
-            Err(_) => Err(FolderFault::Failed),
-        }
-    }
-
-    fn length(&self, reader: &FailingReader<'a>) -> Option<u64> {
-        Folder::length(self, reader)
-    }
-
-    fn can_repeat(&self, reader: &FailingReader<'a>) -> bool {
-        Folder::can_repeat(self, reader)
-    }
-
-    fn again(&mut self, name: &str, reader: &mut FailingReader<'a>) -> Result<(), Failed> {
-        Folder::again(self, name, reader)
-    }
-
-    fn close(&mut self, name: &str, reader: FailingReader<'a>) {
-        Folder::close(self, name, reader);
-    }
-
-    fn create(&mut self, name: &str) -> Result<FailingWriter<'a>, FolderFault> {
-        let calls = self.calls;
-        if calls.fails(Act::Create) {
-            return Err(FolderFault::Failed);
-        }
-        match TracedFolder::create(&mut self.folder, name) {
-            Ok(writer) => Ok(FailingWriter { writer, calls }),
-            Err(fault) => Err(fault),
-        }
-    }
-
-    fn finish(&mut self, output: FailingWriter<'a>) -> Result<(), FailingWriter<'a>> {
-        let calls = self.calls;
-        if calls.fails(Act::Write) {
-            return Err(output);
-        }
-        let FailingWriter { writer, calls: _ } = output;
-        match TracedFolder::finish(&mut self.folder, writer) {
-            Ok(()) => Ok(()),
-            Err(writer) => Err(FailingWriter { writer, calls }),
-        }
-    }
-
-    fn discard(&mut self, output: FailingWriter<'a>) -> Result<(), FolderFault> {
-        if self.calls.fails(Act::Remove) {
-            return Err(FolderFault::Failed);
-        }
-        let FailingWriter { writer, calls: _ } = output;
-        TracedFolder::discard(&mut self.folder, writer)
-    }
-
-    ghost sound = { λ _. ∣ tt ∣₁ };
-}
-
 // The output in hand is that of the folder below.
 impl<'a> Outputs for Failing<'a> {
     type Handle = MemoryHandle;
@@ -293,19 +224,9 @@ impl<'a> OpeningFolder for Failing<'a> {
     }
 }
 
-// These calls aren't passed on to the folder below: it requires what began in it, and this folder doesn't record that.
+// The folder below has no record that gets a key.
 impl<'a> SealingFolder for Failing<'a> {
     fn start<S: Fold>(&mut self, _file: &LedgerFile<S>, _key: &Key, _ledger: &Ledger) {}
-
-    fn allow_container(
-        &mut self,
-        _output: &mut FailingWriter<'a>,
-        _ledger: &Ledger,
-        _seat: &Seat,
-        _number: u32,
-        _key: &Key,
-        _shape: &Shape,
-    ) {}
 }
 
 impl Source for FailingReader<'_> {
@@ -314,14 +235,5 @@ impl Source for FailingReader<'_> {
             return Err(Failed);
         }
         self.reader.read(buffer)
-    }
-}
-
-impl Sink for FailingWriter<'_> {
-    fn write(&mut self, bytes: &[u8]) -> Result<usize, Failed> {
-        if self.calls.fails(Act::Write) {
-            return Err(Failed);
-        }
-        self.writer.write(bytes)
     }
 }

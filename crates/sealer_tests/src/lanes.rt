@@ -303,7 +303,6 @@ fn status_of_three<R: AllocGlobal + Threads + Wait + Sync>(
     out: &mut MemoryOuts,
 ) -> Option<u8> {
     let mut file = ledger_after(rt.alloc(), "")?;
-    folder.end_session();
     let files = ["a", "b", "c"];
     seal_over(rt, &mut file, folder, &files, out, 1 << 30, 1, 2)
 }

@@ -20,6 +20,8 @@ mod lanes;
 #[cfg(test)]
 mod pipes;
 #[cfg(test)]
+mod records;
+#[cfg(test)]
 mod refused;
 #[cfg(test)]
 mod runs;

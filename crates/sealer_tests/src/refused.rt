@@ -141,7 +141,6 @@ fn seals_or_lacks_memory<R: AllocGlobal + Threads + Wait + Sync>(rt: &R) -> Opti
     let mut folder = folder_again(alloc)?;
     let mut file = ledger_again(alloc)?;
     let mut out = outs_again(alloc)?;
-    folder.end_session();
     let status = seal_over(
         rt,
         &mut file,

@@ -1,7 +1,7 @@
 //! What the tests of the commands share: containers made by Python's `cryptography`, folders, ledger files and outputs
 //! in memory, and a run of a command over them.
-ghost use Rattle.std.specs.Prelude.{◌≡◌, IfSome, []};
-ghost use Rattle.folder_core.specs.Changes.{IsIdle};
+ghost use Rattle.std.specs.Prelude.{IfSome};
+ghost use Rattle.folder_core.specs.Changes.{IsIdle, IsUnstarted};
 
 use command_core::{open_all, verify_all};
 use container_core::{Key, Shape, open};
@@ -217,7 +217,7 @@ pub(crate) fn seal_over<R: AllocGlobal + Threads + Wait + Sync, S: Fold, F: Seal
     workers: u32,
     lanes: u32,
 ) -> Option<u8>
-    requires idle { IfSome (F.session folder.old) (λ session. session.begun ≡ []) }
+    requires unstarted { IfSome (F.rest folder.old) IsUnstarted }
 {
     let shape = Shape::one();
     seal_shaped(
@@ -237,7 +237,7 @@ pub(crate) fn seal_shaped<R: AllocGlobal + Threads + Wait + Sync, S: Fold, F: Se
     lanes: u32,
     shape: &Shape,
 ) -> Option<u8>
-    requires idle { IfSome (F.session folder.old) (λ session. session.begun ≡ []) }
+    requires unstarted { IfSome (F.rest folder.old) IsUnstarted }
 {
     let device = Device::new(1)?;
     if files.is_empty() || max_bytes > 1 << 40 {

@@ -189,7 +189,6 @@ fn end_over<R: AllocGlobal + Threads + Clock + Wait + Sync, S: Fold>(
     }
     let mut folder = folder_of(rt.alloc(), &[("a", b"")])?;
     let mut out = steady_outs(rt.alloc())?;
-    folder.end_session();
     let status = seal_over(rt, file, &mut folder, &["a"], &mut out, 8, 1, 1)?;
     Some(end_of(status, &folder, &out))
 }

@@ -366,14 +366,14 @@ fn an_opening_and_a_verifying_do_this_in_the_folder_and_nothing_else(rt: HostRun
 }
 
 // Of the empty plaintext, under number 1.
-const NONE_UNDER_1: [u8; 40] = [
+pub(crate) const NONE_UNDER_1: [u8; 40] = [
     0x53, 0x54, 0x52, 0x4d, 0x53, 0x45, 0x41, 0x4c, 0x01, 0x10, 0x00, 0x00, 0x01, 0x00, 0x00, 0x00,
     0x01, 0x63, 0x0d, 0xcd, 0x29, 0x66, 0xc4, 0x33, 0x16, 0x4f, 0xe9, 0x88, 0xc6, 0x2c, 0x60, 0x17,
     0x4c, 0xce, 0x1f, 0xb8, 0xf1, 0x40, 0x26, 0x1f,
 ];
 
 // Of `more`, under number 2.
-const MORE_UNDER_2: [u8; 44] = [
+pub(crate) const MORE_UNDER_2: [u8; 44] = [
     0x53, 0x54, 0x52, 0x4d, 0x53, 0x45, 0x41, 0x4c, 0x01, 0x10, 0x00, 0x00, 0x01, 0x00, 0x00, 0x00,
     0x02, 0x63, 0x0d, 0xcd, 0x29, 0x66, 0xc4, 0x33, 0x26, 0x47, 0x9f, 0x18, 0x95, 0x61, 0x2f, 0x87,
     0xd1, 0x57, 0x3b, 0xa4, 0x48, 0x14, 0x67, 0x19, 0x4f, 0x28, 0x5a, 0xe5,
@@ -426,18 +426,23 @@ static SEALED: [(u32, &[Seen]); 2] = [
             Seen::Reading("a", b"a secret"),
             Seen::Created("a.stm"),
             Seen::Finished("a.stm", &SECRET),
+            Seen::Closed("a", false),
             Seen::Unread("m"),
             Seen::Reading("c", b"x"),
             Seen::Refused("c.stm", FolderFault::Exists),
+            Seen::Closed("c", false),
             Seen::Reading("d", b""),
             Seen::Created("d.stm"),
             Seen::Finished("d.stm", &NONE_UNDER_1),
+            Seen::Closed("d", false),
             Seen::Reading("e", b"more"),
             Seen::Created("e.stm"),
             Seen::Finished("e.stm", &MORE_UNDER_2),
+            Seen::Closed("e", false),
             Seen::Reading("long", b"nine more"),
             Seen::Created("long.stm"),
             Seen::Discarded("long.stm", b""),
+            Seen::Closed("long", false),
         ],
     ),
     (
@@ -445,16 +450,21 @@ static SEALED: [(u32, &[Seen]); 2] = [
         &[
             Seen::Reading("a", b"a secret"),
             Seen::Created("a.stm"),
+            Seen::Closed("a", false),
             Seen::Unread("m"),
             Seen::Reading("c", b"x"),
             Seen::Refused("c.stm", FolderFault::Exists),
+            Seen::Closed("c", false),
             Seen::Finished("a.stm", &SECRET),
             Seen::Reading("d", b""),
             Seen::Created("d.stm"),
+            Seen::Closed("d", false),
             Seen::Reading("e", b"more"),
             Seen::Created("e.stm"),
+            Seen::Closed("e", false),
             Seen::Reading("long", b"nine more"),
             Seen::Created("long.stm"),
+            Seen::Closed("long", false),
             Seen::Finished("d.stm", &NONE_UNDER_1),
             Seen::Finished("e.stm", &MORE_UNDER_2),
             Seen::Discarded("long.stm", b""),

@@ -11,13 +11,11 @@ use crate::own::{
 };
 use crate::progress::{Named, Progress, explain_file};
 use crate::spool::FileSpool;
-use command_core::{Folder, SealingFolder};
-use container_core::{Key, Shape};
+use command_core::Folder;
 use either::Either;
 use folder_core::{FileReader, FolderFault, Spooled};
 use io_core::Failed;
-use ledger_core::{Ledger, Seat, ToWrite};
-use reserve_core::{Fold, LedgerFile};
+use ledger_core::ToWrite;
 use std::alloc::Global;
 use std::fs::File;
 use std::io::Read;
@@ -425,20 +423,4 @@ impl<'p, 'r, R: Files + AllocGlobal + Clock + Eprint, I: Read + Drop> Folder
     }
 
     ghost sound = { λ _. ∣ tt ∣₁ };
-}
-
-// The bound of an output is proof only: the contracts of its writers state it. Nothing happens at run time.
-impl<'p, 'r, R: Files + AllocGlobal + Clock + Eprint, I: Read + Drop> SealingFolder
-    for SystemFiles<'p, 'r, R, I> {
-    fn start<S: Fold>(&mut self, _file: &LedgerFile<S>, _key: &Key, _ledger: &Ledger) {}
-
-    fn allow_container(
-        &mut self,
-        _output: &mut Self::Writer,
-        _ledger: &Ledger,
-        _seat: &Seat,
-        _number: u32,
-        _key: &Key,
-        _shape: &Shape,
-    ) {}
 }

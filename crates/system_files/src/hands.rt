@@ -4,10 +4,12 @@
 
 use crate::files::{SystemFiles, SystemReader};
 use crate::outputs::{self, Output};
-use command_core::Folder as TracedFolder;
+use command_core::{Folder as TracedFolder, SealingFolder};
 use container_core::{Header, Key, Shape};
 use folder_core::{Folder, FolderFault, OpeningFolder, Outputs, Place, Whole};
 use io_core::{Failed, Sink, ToWrite};
+use ledger_core::Ledger;
+use reserve_core::{Fold, LedgerFile};
 use std::io::{Read, Write};
 use std::rt::{Clock, Files};
 
@@ -110,4 +112,10 @@ impl<'p, 'r, R: Files + AllocGlobal + Clock + Eprint, I: Read + Drop> OpeningFol
     ) {
         self.in_hand = Some(ToWrite(output.0));
     }
+}
+
+// The key and the range are of the record, so nothing happens at run time.
+impl<'p, 'r, R: Files + AllocGlobal + Clock + Eprint, I: Read + Drop> SealingFolder
+    for SystemFiles<'p, 'r, R, I> {
+    fn start<S: Fold>(&mut self, _file: &LedgerFile<S>, _key: &Key, _ledger: &Ledger) {}
 }

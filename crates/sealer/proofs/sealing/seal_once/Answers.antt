@@ -9,6 +9,6 @@ returns-clause-status g c =
     ⊎_elim (λ none. inl none.0)
     (λ all.
     let (range, history, told, written, folds, lawful, witnessed, sealed, journal, is) = all in
-    moved (λ name. IsOfSealing) _ _ _ _ _ _ _ sealed.worked.named refl refl
-    (of_written (λ name. IsOfSealing) _ told written sealed.worked.lines _ _ _ _ _ sealed.worked.fitting sealed.worked.told (λ yes. refl) is))
+    moved (λ name. IsOfSealing) _ _ _ _ _ _ _ sealed.sealed.worked.named refl refl
+    (of_written (λ name. IsOfSealing) _ told written sealed.sealed.worked.lines _ _ _ _ _ sealed.sealed.worked.fitting sealed.sealed.worked.told (λ yes. refl) is))
     ended

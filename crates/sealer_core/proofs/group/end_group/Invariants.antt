@@ -1,23 +1,26 @@
--- The files so far have their lines.
-use Rattle.std.proofs.Common.{◌≤◌, length, All, flat_map}
-use Rattle.command_core.specs.Trace.{Does}
-use Rattle.sha2.specs.Sha256.{sha256}
-use Rattle.sealer_core.specs.Group.{AreGrantedOnce, AreOwing, AreSettled, IsContainerUnder, IsPrepared, read_of}
-use Rattle.sealer_core.proofs.Groups.{AreEnding}
-use Rattle.sealer_core.proofs.Matches.{EndsSoFar}
+-- The files so far have their lines, and what came for the others waits.
+use Rattle.std.proofs.Common.{◌≤◌, ℕ, List, [], length, All, Option, flat_map}
+use Rattle.folder_core.specs.Record.{RunRecord}
+use Rattle.command_core.specs.Lines.{FileLine}
+use Rattle.sealer_core.specs.Group.{AreEndingIn, AreGrantedOnce, AreKeyed, AreOwing, IsContainerUnder, IsPrepared, read_of, under_in}
 use Rattle.sealer_core.specs.Sealing.{operations_of}
+use Rattle.sealer_core.proofs.Groups.{AreEnding}
 use Rattle.sealer_core.proofs.group.end_group.Given as goal
 
 abbrev pub invariant-loop-file : goal.invariant-loop-file
 invariant-loop-file g l = record {
-  owing : AreOwing l.ledger l.seats l.outcomes.items;
-  prepared : All (IsPrepared g.F.Writer.Output.bound g.F.Writer.Output.taken) l.files.items;
+  owing : AreOwing l.context.ledger.now l.seats l.outcomes.items;
+  prepared : All IsPrepared l.files.items;
   few : length l.outcomes.items ≤ length (flat_map read_of l.files.items);
-  containers : All (IsContainerUnder l.key l.shape) l.outcomes.items;
+  containers : All (IsContainerUnder l.context.key.now l.context.options.now.shape.now) l.outcomes.items;
   once : AreGrantedOnce (operations_of l.seats);
-  session : AreSettled (sha256 l.key) l.ledger.terms.range (operations_of l.seats) (g.F.Folder.session l.folder);
-  ending : AreEnding (λ lines voids. Does (EndsSoFar g.F.Writer.Output.taken l.initial.files.items l.files.items l.initial.outcomes.items l.outcomes.items lines voids)
-      (g.F.Folder.told l.initial.folder) (g.F.Folder.told l.folder)) l.initial.files.items l.files.items l.initial.outcomes.items l.outcomes.items (operations_of l.initial.seats) (operations_of l.seats) l.start l.status
+  keyed : AreKeyed l.context l.seats (g.F.Outputs.rest l.folder);
+  waits : (before : Option RunRecord) × (lines : List FileLine) × (voids : List ℕ)
+      × AreEndingIn g.F.Handle.Place.at (under_in l.context) lines voids l.files.items l.outcomes.items before (g.F.Outputs.rest l.folder);
+  ending : AreEnding (λ lines voids. (before : Option RunRecord)
+      → AreEndingIn g.F.Handle.Place.at (under_in l.context) [] [] l.initial.files.items l.initial.outcomes.items before (g.F.Outputs.rest l.initial.folder)
+      → AreEndingIn g.F.Handle.Place.at (under_in l.context) lines voids l.files.items l.outcomes.items before (g.F.Outputs.rest l.folder))
+      l.initial.files.items l.files.items l.initial.outcomes.items l.outcomes.items (operations_of l.initial.seats) (operations_of l.seats) l.start l.status
       (g.L.Report.taken l.initial.lines) (g.L.Report.taken l.lines) (g.L.Report.failures l.initial.lines) (g.L.Report.failures l.lines);
 }
 

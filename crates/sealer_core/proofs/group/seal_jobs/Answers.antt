@@ -4,7 +4,8 @@ use Rattle.journal_core.specs.History.{times_settled}
 use Rattle.ledger_core.specs.Shared.{SeatView}
 use Rattle.sealer_core.specs.Group.{AreHeld, AreOwing, IsContainerUnder}
 use Rattle.sealer_core.specs.Sealing.{operations_of}
-use Rattle.sealer_core.proofs.Groups.{held_as, nothing_held, after_batch, outcomes_held, owed_batch, owing_as, among_seats}
+use Rattle.sealer_core.proofs.Groups.{held_as, after_batch, outcomes_held, owed_batch, among_seats}
+use Rattle.sealer_core.proofs.Owing.{nothing_held, owing_as}
 use Rattle.sealer_core.proofs.Sessions.{batch_settles, containers_of, none_under}
 use Rattle.sealer_core.proofs.group.seal_jobs.Goals as goal
 

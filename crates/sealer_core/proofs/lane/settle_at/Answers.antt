@@ -1,5 +1,5 @@
 use Rattle.std.proofs.lemmas.Option.{slice_get-get_or}
-use Rattle.sealer_core.proofs.Groups.{counted_at, settled_at}
+use Rattle.sealer_core.proofs.Owing.{counted_at, settled_at}
 use Rattle.sealer_core.proofs.Numbering.{held_by}
 use Rattle.sealer_core.proofs.lane.settle_at.Goals as goal
 

@@ -1,5 +1,5 @@
-use Rattle.sealer_core.proofs.OutputLaws.{one_prefix}
+use Rattle.sealer_core.proofs.Numbered.{one_prefix}
 use Rattle.sealer_core.proofs.laws.no_two_outputs_have_one_prefix.Goals as goal
 
 pub returns : goal.returns
-returns c = one_prefix
+returns c key runs one other number another are at also same = one_prefix key runs are one other number another at also same

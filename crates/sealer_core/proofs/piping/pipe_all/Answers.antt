@@ -4,7 +4,7 @@ use Rattle.journal_core.specs.Journal.{terms_of}
 use Rattle.journal_core.specs.Text.{journal_text}
 use Rattle.sealer_core.specs.Piping.{HasSealedStream}
 use Rattle.sealer_core.specs.Sealing.{IsWritten}
-use Rattle.sealer_core.proofs.Sessions.{stands_in}
+use Rattle.sealer_core.proofs.Started.{stands_in}
 use Rattle.sealer_core.proofs.piping.pipe_all.Goals as goal
 
 pub returns-in-Ok-ended-clause-run : goal.returns-in-Ok-ended-clause-run

@@ -4,8 +4,7 @@ use Rattle.journal_core.specs.declared.entry.Entry.{Entry}
 use Rattle.sealer_core.specs.Piping.{stream_name}
 use Rattle.sealer_core.specs.Sealing.{Accounts}
 use Rattle.sealer_core.proofs.Numbering.{accounts_none, after_failure, after_fault, after_run, not_granted, spent_held}
-use Rattle.sealer_core.proofs.Streams.{stream_begun, stream_sealed, works_failed}
-use Rattle.sealer_core.proofs.Sessions.{admits, held_now, pipes_as}
+use Rattle.sealer_core.proofs.Streams.{admits, held_now, pipes_as, stream_begun, stream_sealed, works_failed}
 use Rattle.sealer_core.proofs.piping.pipe_next.Goals as goal
 
 pub returns-in-Err-clause-piped : goal.returns-in-Err-clause-piped

@@ -1,5 +1,5 @@
 use Rattle.sealer_core.proofs.Chunks.{chunk_there}
-use Rattle.sealer_core.proofs.Life.{begins, once}
+use Rattle.sealer_core.proofs.Nonces.{begins, once}
 use Rattle.sealer_core.proofs.theorem.no_nonce_is_used_twice.Goals as goal
 
 pub returns-clause-sealed : goal.returns-clause-sealed
@@ -10,4 +10,5 @@ returns-clause-each c key range bytes chunk begun reached few = chunk_there key 
 
 pub returns-clause-once : goal.returns-clause-once
 returns-clause-once c key runs one other this that chunk another nonce are held also has had = once key runs are
-    (c.no_two_outputs_have_one_prefix.ensures key) one other this that chunk another nonce held also has had
+    (λ one other number another. c.no_two_outputs_have_one_prefix.ensures key runs one other number another are)
+    one other this that chunk another nonce held also has had

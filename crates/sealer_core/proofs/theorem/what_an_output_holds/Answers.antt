@@ -1,4 +1,4 @@
-use Rattle.sealer_core.proofs.SoFar.{holds}
+use Rattle.sealer_core.proofs.Calls.{holds}
 use Rattle.std.proofs.Math.Logic.{∥∥₁_map}
 use Rattle.sealer_core.proofs.theorem.what_an_output_holds.Goals as goal
 

@@ -1,4 +1,4 @@
-use Rattle.sealer_core.proofs.Openings.{each_opened, held_of_run, of_files, of_run, of_stream_run, of_streams, opened_to, unpiped_run, unpiped_stream_run}
+use Rattle.sealer_core.proofs.Openings.{each_opened, held_of_run, of_lines, of_run, of_stream_run, of_streams, opened_to, unpiped_run, unpiped_stream_run}
 use Rattle.sealer_core.proofs.theorem.what_was_opened_was_sealed.Goals as goal
 
 pub returns-clause-runs : goal.returns-clause-runs
@@ -35,10 +35,10 @@ pub returns-clause-sealed : goal.returns-clause-sealed
 returns-clause-sealed c key terms history run output bytes at = held_of_run key terms history run output bytes at
 
 pub returns-clause-files : goal.returns-clause-files
-returns-clause-files c key shape device number bytes limit most n label name other target void before after entries earlier is_shape sealed opened same =
-    of_files key (λ bytes plain most at. let r = (c.opens_exactly_its_container.ensures.exactly key bytes plain most).0 at in (r.1, r.2))
+returns-clause-files c key shape device number bytes limit most n label name other target added entries earlier is_shape sealed opened same =
+    of_lines key (λ bytes plain most at. let r = (c.opens_exactly_its_container.ensures.exactly key bytes plain most).0 at in (r.1, r.2))
     (λ prefix other plain another shape form one two seven too same. (c.containers_differ.ensures.plaintext key prefix other plain another shape form one two seven too same).2)
-    shape is_shape device number bytes limit most n label name other target void before after entries earlier sealed opened same
+    shape is_shape device number bytes limit most n label name other target added entries earlier sealed opened same
 
 pub returns-clause-streams : goal.returns-clause-streams
 returns-clause-streams c key shape device number bytes chunks most n label left failures later refusals more input taken written other target void entries earlier

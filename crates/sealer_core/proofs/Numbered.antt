@@ -1,0 +1,215 @@
+-- The law on prefixes. The ranges of a device's runs rise, since each one is after the one before. So a number is in one
+-- run's range, and one output of that run has it.
+use Rattle.std.proofs.Common.{◌≡◌, ℕ, zero, suc, ◌+◌, ◌<◌, ◌≤◌, Bool, true, cond, List, [], ◌∷◌, count_by, Option, None, Some, refl, ap, ◌∙◌, subst, arith, eq-eqb}
+use mathlib.Core.Logic.{dite}
+use native.Mathlib.Decide.{dec_le}
+use Rattle.std.specs.Prelude.{slice_get}
+use Rattle.std.specs.Coded.{Coded, Coded-set, code_by, coded×, coded_ℕ}
+use Rattle.std.specs.List.{AllByRecursion}
+use Rattle.std.proofs.Math.Logic.{∥∥₁_elim}
+use Rattle.std.proofs.lemmas.List.Sums.{sum_by-cons}
+use Rattle.container_core.specs.Container.{container}
+use Rattle.container_core.specs.Shape.{IsShape, ShapeView}
+use Rattle.io_core.specs.Streams.{IsFront}
+use Rattle.folder_core.specs.Record.{Container, Content, Created, Holds, IsAllowed, IsSound, KeyedRange, Output, RunRecord, begins, bound_of, has_number, times_begun}
+use Rattle.journal_core.specs.Range.{Numbers, prefix_of}
+use Rattle.journal_core.proofs.Prefixes.{prefix_tells}
+use Rattle.output_core.specs.Bounds.{Allows}
+use Rattle.reserve_core.proofs.NextRun.{passed}
+use Rattle.sealer_core.specs.Theorem.{AreInTurn, AreRunsOf, Follows, IsKeyedBy, IsNumberedAt, IsRun, Place, Run}
+use Rattle.sealer_core.proofs.Lives.{not_apart}
+
+-- ---- lists
+
+pub all_at : {A : Type 0} (P : A → Type 0) (xs : List A) (i : ℕ) (x : A) → AllByRecursion P xs → slice_get xs i ≡ Some x → P x
+all_at P [] i x all at = absurd (cc)
+all_at P (y ∷ xs) zero x all at = let same : y ≡ x = cc in subst P same all.0
+all_at P (y ∷ xs) (suc i) x all at = all_at P xs i x all.1 at
+
+-- if each begins after the one before it, each later one does
+module _ {A : Type 0} (P : A → Type 0) (next : A → A → Type 0) (lo end : A → ℕ) (rises : (x : A) → lo x ≤ end x)
+    (behind : (x y : A) → P x → P y → next x y → end x ≤ lo y) where
+  others_behind : (x : A) (xs : List A) → P x → AllByRecursion P xs → AreInTurn next (x ∷ xs) → (j : ℕ) (y : A) → slice_get xs j ≡ Some y → end x ≤ lo y
+  others_behind x [] is all turn j y at = absurd (cc)
+  others_behind x (z ∷ xs) is all turn zero y at = let same : z ≡ y = cc in subst (λ (y : A). end x ≤ lo y) same (behind x z is all.0 turn.0)
+  others_behind x (z ∷ xs) is all turn (suc j) y at =
+      let first = behind x z is all.0 turn.0 in
+      let then = others_behind z xs all.0 all.1 turn.1 j y at in
+      let mid = rises z in omega arith
+
+  rest_in_turn : (x : A) (xs : List A) → AreInTurn next (x ∷ xs) → AreInTurn next xs
+  rest_in_turn x [] turn = tt
+  rest_in_turn x (z ∷ xs) turn = turn.1
+
+  all_behind : (xs : List A) → AllByRecursion P xs → AreInTurn next xs → (i j : ℕ) (x y : A) → i < j → slice_get xs i ≡ Some x → slice_get xs j ≡ Some y
+      → end x ≤ lo y
+  all_behind [] all turn i j x y less at also = absurd (cc)
+  all_behind (z ∷ xs) all turn i zero x y less at also = absurd (omega arith)
+  all_behind (z ∷ xs) all turn zero (suc j) x y less at also =
+      let same : z ≡ x = cc in subst (λ (x : A). end x ≤ lo y) same (others_behind z xs all.0 all.1 turn j y also)
+  all_behind (z ∷ xs) all turn (suc i) (suc j) x y less at also = all_behind xs all.1 (rest_in_turn z xs turn) i j x y (omega arith) at also
+
+module _ {A : Type 0} (p : A → Bool) where
+  count_cons : (x : A) (xs : List A) → count_by p (x ∷ xs) ≡ cond (p x) 1 0 + count_by p xs
+  count_cons x xs = sum_by-cons (λ (y : A). cond (p y) 1 0) x xs
+
+  counted_by : (x : A) (b : Bool) → p x ≡ b → cond {A = ℕ} (p x) 1 0 ≡ cond b 1 0
+  counted_by x b is = ap (λ b. cond {A = ℕ} b 1 0) is
+
+  counts : (xs : List A) (i : ℕ) (x : A) → slice_get xs i ≡ Some x → p x ≡ true → 0 < count_by p xs
+  counts [] i x at hit = absurd (cc)
+  counts (y ∷ xs) zero x at hit =
+      let same : y ≡ x = cc in
+      let all = count_cons y xs in
+      let one = counted_by y true (ap p same ∙ hit) in omega arith
+  counts (y ∷ xs) (suc i) x at hit =
+      let all = count_cons y xs in
+      let more = counts xs i x at hit in omega arith
+
+  -- where at most one is counted, two are the same
+  one_alone : (xs : List A) (i j : ℕ) (x y : A) → count_by p xs ≤ 1 → slice_get xs i ≡ Some x → slice_get xs j ≡ Some y
+      → p x ≡ true → p y ≡ true → i ≡ j
+  one_alone [] i j x y few at also hit so = absurd (cc)
+  one_alone (z ∷ xs) zero zero x y few at also hit so = refl
+  one_alone (z ∷ xs) zero (suc j) x y few at also hit so =
+      let same : z ≡ x = cc in
+      let all = count_cons z xs in
+      let one = counted_by z true (ap p same ∙ hit) in
+      let more = counts xs j y also so in absurd (omega arith)
+  one_alone (z ∷ xs) (suc i) zero x y few at also hit so =
+      let same : z ≡ y = cc in
+      let all = count_cons z xs in
+      let one = counted_by z true (ap p same ∙ so) in
+      let more = counts xs i x at hit in absurd (omega arith)
+  one_alone (z ∷ xs) (suc i) (suc j) x y few at also hit so =
+      let all = count_cons z xs in
+      ap suc (one_alone xs i j x y (omega arith) at also hit so)
+
+-- ---- an output of a sound record
+
+-- An output that may hold a container holds a prefix of one, under its number of the range.
+abbrev pub Begins : List ℕ → Numbers → ℕ → ShapeView → List ℕ → Type 0
+Begins key range number shape bytes = IsShape shape × ((range.lo ≤ number) × (number < range.lo + range.size))
+    × ((plain : List ℕ) × IsFront bytes (container key shape (prefix_of range.device number) plain))
+
+pub begins_at : (key : List ℕ) (range : Numbers) (r : RunRecord) (place number : ℕ) (output : Output) (shape : ShapeView)
+    → IsKeyedBy key range r → IsSound r → slice_get r.entries place ≡ Some (Created output)
+    → output.content ≡ Container number shape → Begins key range number shape output.bytes
+begins_at key range r place number output shape keyed sound at content =
+    let holds = all_at (Holds r.under r.entries) r.entries place (Created output) sound.each at in
+    let under : KeyedRange = record { key = key; range = range } in
+    let known = subst (λ (u : Option KeyedRange). IsAllowed u r.entries output.content × Allows (bound_of u output.content) output.bytes) keyed holds in
+    let is = subst (λ (c : Content). IsAllowed (Some under) r.entries c × Allows (bound_of (Some under) c) output.bytes) content known in
+    (is.0.0, is.0.1, is.1)
+
+has_it : (number : ℕ) (shape : ShapeView) (content : Content) → content ≡ Container number shape → has_number number content ≡ true
+has_it number shape content is = ap (has_number number) is ∙ eq-eqb number number refl
+
+-- ---- the runs of a device
+
+abbrev lo_in : Option KeyedRange → ℕ
+lo_in None = 0
+lo_in (Some under) = under.range.lo
+
+abbrev end_in : Option KeyedRange → ℕ
+end_in None = 0
+end_in (Some under) = under.range.lo + under.range.size
+
+abbrev lo_of : Run → ℕ
+lo_of run = lo_in run.written.under
+
+abbrev end_of : Run → ℕ
+end_of run = end_in run.written.under
+
+rises : (under : Option KeyedRange) → lo_in under ≤ end_in under
+rises None = omega arith
+rises (Some under) = omega arith
+
+-- what one run left, the next one found, and its range is after
+rise : (key : List ℕ) (device : ℕ) (one other : Run) → IsRun key device one → IsRun key device other → Follows one other
+    → end_of one ≤ lo_of other
+rise key device one other is was (between, on) =
+    let (lists, are, ends) = is.stands in
+    let begins = was.behind lists (passed one.files other.start between on lists are) in
+    let end : end_of one ≡ is.range.lo + is.range.size = ap end_in is.keyed in
+    let lo : lo_of other ≡ was.range.lo = ap lo_in was.keyed in omega arith
+
+module _ (key : List ℕ) (runs : ℕ → List Run) (are : AreRunsOf key runs) where
+  later : (device i j : ℕ) (one other : Run) → i < j → slice_get (runs device) i ≡ Some one → slice_get (runs device) j ≡ Some other
+      → end_of one ≤ lo_of other
+  later device i j one other less at also =
+      all_behind (IsRun key device) Follows lo_of end_of (λ run. rises run.written.under) (rise key device) (runs device)
+      (are.each device) (are.in_turn device) i j one other less at also
+
+  -- a number is of one run
+  one_run : (device i j number : ℕ) (one other : Run) → slice_get (runs device) i ≡ Some one → slice_get (runs device) j ≡ Some other
+      → lo_of one ≤ number → number < end_of one → lo_of other ≤ number → number < end_of other → i ≡ j
+  one_run device i j number one other at also from below start under =
+      not_apart i j (λ differ. dite (dec_le i j)
+      (λ le. let h = later device i j one other (omega arith) at also in omega arith)
+      (λ gt. let h = later device j i other one (omega arith) also at in omega arith))
+
+  -- what is known of a number that an output has
+  record Standing (place : Place) (number : ℕ) (at : IsNumberedAt runs place number) : Type 0 where
+    once : times_begun number at.run.written.entries ≤ 1
+    hit : begins number (Created at.output) ≡ true
+    from : lo_of at.run ≤ number
+    below : number < end_of at.run
+    three_bytes : place.device ≤ 16777215
+    four_bytes : number < 4294967296
+
+  pub is_run : (place : Place) (number : ℕ) (at : IsNumberedAt runs place number) → IsRun key place.device at.run
+  is_run place number at = all_at (IsRun key place.device) (runs place.device) place.run at.run (are.each place.device) at.at_run
+
+  standing : (place : Place) (number : ℕ) (at : IsNumberedAt runs place number) → IsSound at.run.written → Standing place number at
+  standing place number at sound =
+      let is = is_run place number at in
+      let (lawful, (from, below), plain) = begins_at key is.range at.run.written place.entry number at.output at.shape is.keyed sound at.at_entry at.content in
+      let lo : lo_of at.run ≡ is.range.lo = ap lo_in is.keyed in
+      let end : end_of at.run ≡ is.range.lo + is.range.size = ap end_in is.keyed in
+      let last = is.lawful.end in
+      let three : is.range.device ≤ 16777215 = is.lawful.device in
+      record {
+        once = sound.once number;
+        hit = has_it number at.shape at.output.content at.content;
+        from = omega arith;
+        below = omega arith;
+        three_bytes = subst (λ (d : ℕ). d ≤ 16777215) is.of_device three;
+        four_bytes = omega arith;
+      }
+
+  same_place : (one other : Place) → one.device ≡ other.device → one.run ≡ other.run → one.entry ≡ other.entry → one ≡ other
+  same_place one other d r e =
+      ap (λ x. record { device = x; run = one.run; entry = one.entry }) d
+      ∙ ap (λ x. record { device = other.device; run = x; entry = one.entry }) r
+      ∙ ap (λ x. record { device = other.device; run = other.run; entry = x }) e
+
+  one_place : (one other : Place) (number another : ℕ) (at : IsNumberedAt runs one number) (also : IsNumberedAt runs other another)
+      → Standing one number at → Standing other another also → prefix_of one.device number ≡ prefix_of other.device another → one ≡ other
+  one_place one other number another at also a b same =
+      let (devices, numbers) = prefix_tells one.device number other.device another a.three_bytes a.four_bytes b.three_bytes b.four_bytes same in
+      let a_from = a.from in
+      let a_below = a.below in
+      let b_from = b.from in
+      let b_below = b.below in
+      let there : slice_get (runs one.device) other.run ≡ Some also.run = ap (λ x. slice_get (runs x) other.run) devices ∙ also.at_run in
+      let run = one_run one.device one.run other.run number at.run also.run at.at_run there
+      a_from a_below (omega arith) (omega arith) in
+      let here : slice_get (runs one.device) one.run ≡ Some also.run = ap (λ x. slice_get (runs one.device) x) run ∙ there in
+      let both : at.run ≡ also.run = cc (at.at_run, here) in
+      let in_it : slice_get at.run.written.entries other.entry ≡ Some (Created also.output) =
+      ap (λ (r : Run). slice_get r.written.entries other.entry) both ∙ also.at_entry in
+      same_place one other devices run
+      (one_alone (begins number) at.run.written.entries one.entry other.entry (Created at.output) (Created also.output) a.once at.at_entry in_it
+      a.hit (ap (λ n. begins n (Created also.output)) numbers ∙ b.hit))
+
+  place_code : Coded Place
+  place_code = code_by (ℕ × (ℕ × ℕ)) (coded× coded_ℕ (coded× coded_ℕ coded_ℕ)) (λ p. (p.device, (p.run, p.entry)))
+      (λ t. record { device = t.0; run = t.1.0; entry = t.1.1 }) (λ _. refl)
+
+  pub one_prefix : (one other : Place) (number another : ℕ) → IsNumberedAt runs one number → IsNumberedAt runs other another
+      → prefix_of one.device number ≡ prefix_of other.device another → one ≡ other
+  one_prefix one other number another at also same =
+      ∥∥₁_elim (is_run one number at).sound (Coded-set place_code _ _) (λ sound.
+      ∥∥₁_elim (is_run other another also).sound (Coded-set place_code _ _) (λ sound_too.
+      one_place one other number another at also (standing one number at sound) (standing other another also sound_too) same))
