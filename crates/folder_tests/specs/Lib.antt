@@ -1,4 +1,3 @@
 pub mod Noted
 pub mod Keyed
 pub mod Memory
-pub mod Sealing

@@ -3,7 +3,6 @@
 //! Begin with `memory`. `openings` runs the commands that open and verify over it.
 #![tactic(auto)]
 
-pub mod context;
 pub mod engines;
 pub mod keyed;
 pub mod memory;
@@ -14,15 +13,8 @@ mod openings;
 mod outputs;
 pub mod pages;
 pub mod reader;
-pub mod sealing;
-#[cfg(test)]
-mod sealings;
-pub mod waiting;
 
-pub use crate::context::SealContext;
 pub use crate::engines::fill_sealed;
 pub use crate::memory::{MemoryFolder, MemoryHandle};
 pub use crate::pages::Limits;
 pub use crate::reader::MemoryReader;
-pub use crate::sealing::{put_sealed, seal_file};
-pub use crate::waiting::put_waiting;

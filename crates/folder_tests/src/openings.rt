@@ -1,8 +1,7 @@
 //! A container in a folder in memory is opened in each of the two ways, and verified, whichever call fails.
-ghost use Rattle.std.specs.Prelude.{◌≡◌, ◌<◌, ◌^◌, ℕ, IfSome, length};
+ghost use Rattle.std.specs.Prelude.{◌≡◌, ◌<◌, ◌^◌, IfSome, length};
 ghost use Rattle.folder_core.specs.Changes.{IsIdle};
 ghost use Rattle.folder_tests.specs.Memory.{rest_of};
-ghost use Rattle.folder_tests.specs.Sealing.{IsFreeUnder, of_device_one};
 
 use crate::memory::MemoryFolder;
 use crate::pages::Limits;
@@ -35,12 +34,9 @@ const OPENED: &str = "opened a.stm bytes 9\n";
 
 const READ_FAILED: &str = "failed a.stm: read failed\n";
 
-// A folder in which `a.stm` is a container of that plaintext under this key, within these limits. It has number 3, and
-// the next two are free.
+// A folder in which `a.stm` is a container of that plaintext under this key, within these limits.
 pub(crate) fn folder_within(alloc: Global, secret: [u8; 32], limits: Limits) -> Option<MemoryFolder>
     ensures idle { IfSome result (λ folder. IsIdle (rest_of folder.pages)) }
-    ensures free { (number most : ℕ) → (3 < number) × (number < 6)
-        → IfSome result (λ folder. IfSome (rest_of folder.pages) (IsFreeUnder (of_device_one secret number most))) }
 {
     let key = Key::new(secret);
     let shape = Shape::one();
