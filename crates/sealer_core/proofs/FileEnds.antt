@@ -1,10 +1,10 @@
 -- Files of a group whose outputs wait. One file's output changes at its place. Then the file's entries are those that its
 -- line has.
-use Rattle.std.proofs.Common.{◌≡◌, ◌⊎◌, ◌∙◌, ℕ, zero, suc, ◌+◌, ◌≤◌, Bool, false, List, [], ◌∷◌, ◌++◌, Option, None, Some, All, refl, sym, ap, ap₂, subst, length, length-append, append-nil, append_assoc, flat_map, arith, ⊎_elim, Bor, Vec, Global}
+use Rattle.std.proofs.Common.{◌≡◌, ◌⊎◌, ◌∙◌, ℕ, zero, suc, ◌+◌, ◌≤◌, Bool, false, List, [], ◌∷◌, ◌++◌, Option, None, Some, All, refl, sym, ap, ap₂, subst, length, length-append, append-nil, append_assoc, arith, ⊎_elim, Bor, Vec, Global}
 use Rattle.std.specs.Prelude.{IfSome, slice_get}
 use Rattle.std.proofs.lemmas.Grind.{flat_map-append}
 use Rattle.std.proofs.lemmas.List.{map-append}
-use Rattle.std.proofs.lemmas.List.Elements.{All-head, All-nil, All-push, All-tail}
+use Rattle.std.proofs.lemmas.List.Elements.{All-append, All-cons, All-head, All-nil, All-tail}
 use Rattle.container_core.specs.Faults.{is_failed_read, is_failed_write}
 use Rattle.container_core.specs.Container.{container}
 use Rattle.container_core.specs.declared.fault.SealFault.{SealFault}
@@ -17,7 +17,7 @@ use Rattle.journal_core.specs.Range.{prefix_of}
 use Rattle.ledger_core.specs.Shared.{SpentView}
 use Rattle.ledger_core.specs.declared.fault.IssueFault.{IssueFault}
 use Rattle.ledger_core.specs.declared.fault.IssueFault.TheVariants as unissued
-use Rattle.folder_core.specs.Record.{Checked, Closed, Container, Content, Created, Entry, Event, Finished, GivenUp, Happened, Nothing, Output, Plain, RunRecord, State, begins, times_begun}
+use Rattle.folder_core.specs.Record.{Closed, Container, Content, Created, Entry, Finished, GivenUp, Happened, Nothing, Output, RunRecord, State, times_begun}
 use Rattle.folder_core.specs.Record as record_of
 use Rattle.folder_core.specs.Changes.{Becomes, IsIdle, IsNew, change, closed_at, new_output, set_closed, set_content}
 use Rattle.folder_core.specs.Growth.{Grows, with_entries}
@@ -35,7 +35,7 @@ use Rattle.sealer_core.specs.Sealing.{AddsSealed, HoldsSome, IsWhyGivenUp, Seale
 
 -- ---- one entry among others
 
-change_after : (base entries : List Entry) (place n : ℕ) (f : Output → Output) → place ≡ length base + n
+pub change_after : (base entries : List Entry) (place n : ℕ) (f : Output → Output) → place ≡ length base + n
     → change place f (base ++ entries) ≡ base ++ change n f entries
 change_after [] entries place n f at = ap (λ p. change p f entries) (omega (arith, at))
 change_after (x ∷ base) entries zero n f at = absurd (omega (arith, at))
@@ -55,18 +55,22 @@ module _ (base more : List Entry) (e c : Entry) (o : Output) (place : ℕ) (at :
   get_middle : slice_get (base ++ (e ∷ Created o ∷ c ∷ more)) place ≡ Some (Created o)
   get_middle = get_after base (e ∷ Created o ∷ c ∷ more) place 1 (omega (arith, at))
 
--- ---- the line of one more file
+-- ---- the lines of files
 
-pub line_more : (adds : List ℕ → FileOutcome → List Entry → Type 0) (lines : List FileLine) (line : FileLine) (done new : List Entry)
-    → AddsFiles adds lines done → adds line.name line.outcome new → AddsFiles adds (lines ++ line ∷ []) (done ++ new)
-line_more adds lines line done new d is =
-    let file : FileEntries = record { line = line; entries = new } in record {
-      files = d.files ++ file ∷ [];
-      lined = map-append (λ (f : FileEntries). f.line) d.files (file ∷ []) ∙ ap (λ l. l ++ line ∷ []) d.lined;
-      each = All-push (λ (f : FileEntries). adds f.line.name f.line.outcome f.entries) d.files file d.each is;
-      joined = ap (λ l. l ++ new) d.joined ∙ ap (λ l. flat_map (λ (f : FileEntries). f.entries) d.files ++ l) (sym (append-nil new))
-          ∙ sym (flat_map-append (λ (f : FileEntries). f.entries) d.files (file ∷ []));
-    }
+pub one_file : (adds : List ℕ → FileOutcome → List Entry → Type 0) (line : FileLine) (new : List Entry) → adds line.name line.outcome new → AddsFiles adds (line ∷ []) new
+one_file adds line new is =
+    let file : FileEntries = record { line = line; entries = new } in
+    let its = λ (f : FileEntries). adds f.line.name f.line.outcome f.entries in
+    record { files = file ∷ []; lined = refl; each = All-cons its file [] is (All-nil its); joined = sym (append-nil new) }
+
+pub files_append : (adds : List ℕ → FileOutcome → List Entry → Type 0) (lines more : List FileLine) (one two : List Entry)
+    → AddsFiles adds lines one → AddsFiles adds more two → AddsFiles adds (lines ++ more) (one ++ two)
+files_append adds lines more one two d e = record {
+  files = d.files ++ e.files;
+  lined = map-append (λ (f : FileEntries). f.line) d.files e.files ∙ ap₂ (λ a b. a ++ b) d.lined e.lined;
+  each = All-append (λ (f : FileEntries). adds f.line.name f.line.outcome f.entries) d.files e.files d.each e.each;
+  joined = ap₂ (λ a b. a ++ b) d.joined e.joined ∙ sym (flat_map-append (λ (f : FileEntries). f.entries) d.files e.files);
+}
 
 pub no_lines : (under : SealedUnder) → AddsLines under [] [] []
 no_lines under = (record { files = []; lined = refl; each = All-nil (λ (f : FileEntries). AddsSealed under f.line.name f.line.outcome f.entries); joined = refl }, refl)
@@ -78,7 +82,7 @@ lines_more : (under : SealedUnder) (lines : List FileLine) (voids : List ℕ) (d
     → AddsLines under lines voids done → AddsSealed under name end new → void ≡ given_up_in new
     → AddsLines under (lines ++ line_of name end ∷ []) (voids ++ void) (done ++ new)
 lines_more under lines voids done name end void new (all, is) adds its =
-    (line_more (AddsSealed under) lines (line_of name end) done new all adds, ap₂ (λ a b. a ++ b) is its ∙ sym (given_up_more done new))
+    (files_append (AddsSealed under) lines (line_of name end ∷ []) done new all (one_file (AddsSealed under) (line_of name end) new adds), ap₂ (λ a b. a ++ b) is its ∙ sym (given_up_more done new))
 
 -- ---- entries without an output
 

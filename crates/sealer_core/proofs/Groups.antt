@@ -1,79 +1,56 @@
 -- Files sealed in a group: its numbers are granted by the batch, and settled one by one.
-use Rattle.std.proofs.Common.{◌≡◌, ◌≢◌, ◌⊎◌, ℕ, zero, suc, ◌+◌, ◌-◌, ◌<◌, ◌≤◌, Bool, true, false, cond, nat_eq, eq-eqb, ne_eqb, length-append, length-drop, Vec, Global, List, [], ◌∷◌, ◌++◌, length, count_by, refl, sym, ap, ◌∙◌, subst, ⊎_elim, arith, lit≤, get_or, set, All, Option, map, append-nil, append_assoc, Bor, take, drop}
+use Rattle.std.proofs.Common.{◌≡◌, ◌⊎◌, ℕ, suc, ◌+◌, ◌-◌, ◌<◌, ◌≤◌, Bool, true, false, cond, nat_eq, length-append, length-drop, Vec, Global, List, [], ◌∷◌, ◌++◌, length, count_by, refl, sym, ap, ◌∙◌, subst, ⊎_elim, arith, lit≤, get_or, All, Option, map, append-nil, append_assoc, Bor, take, drop}
 use Rattle.std.specs.Prelude.{Some, slice_get, flat_map}
-use mathlib.Core.Logic.{dite}
-use native.Mathlib.Decide.{ℕ_discrete}
-use Rattle.std.proofs.lemmas.Option.{slice_get-get_or, slice_get_within, get_or_from_slice_get}
-use Rattle.std.proofs.lemmas.List.{map-append, length-map, length-set}
-use Rattle.std.proofs.lemmas.List.Elements.{All-nil, All-cons, All-head, All-push, All-tail}
+use Rattle.std.proofs.lemmas.Option.{slice_get-get_or, slice_get_within}
+use Rattle.std.proofs.lemmas.List.{map-append, length-map}
+use Rattle.std.proofs.lemmas.List.Elements.{All-nil, All-cons, All-push}
 use Rattle.std.proofs.lemmas.Grind.{flat_map-append}
 use Rattle.std.proofs.Math.Seq.{take-add}
 use Rattle.std.proofs.lemmas.List.Sums.{sum_by-cons, sum_by-append}
-use Rattle.journal_core.specs.declared.entry.Event.{Event}
-use Rattle.journal_core.specs.declared.entry.Event.TheVariants.{Granted, Exhausted, Settled}
+use Rattle.journal_core.specs.declared.entry.Event.TheVariants.{Granted, Exhausted}
 use Rattle.journal_core.specs.declared.entry.Entry.{Entry}
-use Rattle.journal_core.specs.declared.entry.Way.{Way}
-use Rattle.journal_core.specs.declared.entry.Way.TheVariants as ended
 use Rattle.journal_core.specs.declared.terms.Terms.{Terms}
 use Rattle.journal_core.specs.History.{entry, grants, settles, times_granted, times_settled}
-use Rattle.journal_core.proofs.Histories.{count_push}
 use Rattle.journal_core.proofs.Bounds.{sum_below, sum_below_more}
-use Rattle.ledger_core.specs.declared.fault.IssueFault.{IssueFault}
 use Rattle.ledger_core.specs.declared.fault.IssueFault.TheVariants.{SeatClosed, OutOfMemory as NoMemory, Exhausted as NoNumber}
-use Rattle.ledger_core.specs.Shared.{LedgerView, SeatView, SpentView, GrantView, Extends, IsSameSeat, spent_as}
+use Rattle.ledger_core.specs.Shared.{LedgerView, SeatView}
 use Rattle.ledger_core.specs.Closing.{AreAllSeats}
-use Rattle.ledger_core.proofs.Meetings.{get-set_here, get-set_else}
 use Rattle.crew_core.specs.declared.outcome.Outcome.{Outcome}
 use Rattle.crew_core.specs.declared.outcome.Outcome.TheVariants as job
 use Rattle.container_core.specs.Shape.{ShapeView}
 use Rattle.crew_core.specs.Batch.{seat_of, of_seat, issues, AreOutcomes, AreAmong, AreIssued, IsAt, IsOutcome}
 use Rattle.command_core.specs.declared.line.FileFault.{FileFault}
 use Rattle.command_core.specs.declared.line.FileOutcome.{FileOutcome}
-use Rattle.command_core.specs.declared.line.FileOutcome.TheVariants.{Sealed, Opened, Good, Shown, Failed}
+use Rattle.command_core.specs.declared.line.FileOutcome.TheVariants.{Failed}
 use Rattle.command_core.specs.Lines.{FileLine}
 use Rattle.command_core.specs.Work.{AreTold}
-use Rattle.sealer_core.specs.Group.{holds, HasEnded, IsOfSeats, AreHeld, AreOwing, AreOwed, OwesAt, SettledAt, IsCounted, IsEnding, AreEnded, refused_lines, name_of, IsPrepared, read_of, left_by, void_at, void_by, void_in}
+use Rattle.sealer_core.specs.Group.{holds, HasEnded, IsOfSeats, AreHeld, AreOwed, AreEnded, refused_lines, name_of, IsPrepared, read_of, left_by, void_by, void_in}
 use Rattle.sealer_core.specs.declared.prepare.Prepared.{Prepared}
 use Rattle.sealer_core.specs.declared.prepare.Prepared.TheVariants.{Refused, Unread, Read}
 use Rattle.command_core.specs.declared.line.FileFault.TheVariants.{OutOfMemory}
-use Rattle.sealer_core.specs.Sealing.{Accounts, IsOfSealing, line_of, operations_of, seals, spoils, tells_of, times_sealed, times_voided}
-use Rattle.sealer_core.proofs.Numbering.{adds_failure, in_append, in_push, mine_of, told_push, sum_below_zeros, sum_below_first}
-use Rattle.sealer_core.proofs.Owing.{held_cons, held_failed, let_go, nothing_held}
+use Rattle.sealer_core.specs.Sealing.{Accounts, IsOfSealing, line_of, operations_of, seals, spoils}
+use Rattle.sealer_core.proofs.Numbering.{sum_below_zeros, sum_below_first}
+use Rattle.sealer_core.proofs.Owing.{adds_failure, held_cons, held_failed, let_go, nothing_held}
 
 -- ---- numbers that a batch granted
 
+-- none of them is one of these
+module _ (q : Entry → Bool) (t : ℕ) (grants_none : (k : ℕ) → q (entry t (Granted k)) ≡ false) (ends_none : q (entry t Exhausted) ≡ false) where
+  more : (e : Entry) (l : List Entry) → q e ≡ false → count_by q l ≡ 0 → count_by q (e ∷ l) ≡ 0
+  more e l none rest =
+      let all = sum_by-cons (λ (x : Entry). cond (q x) 1 0) e l in
+      let one : cond {A = ℕ} (q e) 1 0 ≡ 0 = ap (λ b. cond {A = ℕ} b 1 0) none in omega arith
+
+  issues_none : (os : List Outcome) → count_by q (issues t os) ≡ 0
+  issues_none [] = refl
+  issues_none (job.Sealed seat bytes spent ∷ os) = more (entry t (Granted spent.number)) (issues t os) (grants_none spent.number) (issues_none os)
+  issues_none (job.Spoiled seat spent ∷ os) = more (entry t (Granted spent.number)) (issues t os) (grants_none spent.number) (issues_none os)
+  issues_none (job.Unissued seat NoNumber ∷ os) = more (entry t Exhausted) (issues t os) ends_none (issues_none os)
+  issues_none (job.Unissued seat SeatClosed ∷ os) = issues_none os
+  issues_none (job.Unissued seat NoMemory ∷ os) = issues_none os
+
 pub issues_settles : (n t : ℕ) (os : List Outcome) → count_by (settles n) (issues t os) ≡ 0
-issues_settles n t [] = refl
-issues_settles n t (job.Sealed seat bytes spent ∷ os) =
-    let r = issues_settles n t os in let c = sum_by-cons (λ (e : Entry). cond (settles n e) 1 0) (entry t (Granted spent.number)) (issues t os) in omega arith
-issues_settles n t (job.Spoiled seat spent ∷ os) =
-    let r = issues_settles n t os in let c = sum_by-cons (λ (e : Entry). cond (settles n e) 1 0) (entry t (Granted spent.number)) (issues t os) in omega arith
-issues_settles n t (job.Unissued seat NoNumber ∷ os) =
-    let r = issues_settles n t os in let c = sum_by-cons (λ (e : Entry). cond (settles n e) 1 0) (entry t Exhausted) (issues t os) in omega arith
-issues_settles n t (job.Unissued seat SeatClosed ∷ os) = issues_settles n t os
-issues_settles n t (job.Unissued seat NoMemory ∷ os) = issues_settles n t os
-
-issues_seals : (n t : ℕ) (os : List Outcome) → count_by (seals n) (issues t os) ≡ 0
-issues_seals n t [] = refl
-issues_seals n t (job.Sealed seat bytes spent ∷ os) =
-    let r = issues_seals n t os in let c = sum_by-cons (λ (e : Entry). cond (seals n e) 1 0) (entry t (Granted spent.number)) (issues t os) in omega arith
-issues_seals n t (job.Spoiled seat spent ∷ os) =
-    let r = issues_seals n t os in let c = sum_by-cons (λ (e : Entry). cond (seals n e) 1 0) (entry t (Granted spent.number)) (issues t os) in omega arith
-issues_seals n t (job.Unissued seat NoNumber ∷ os) =
-    let r = issues_seals n t os in let c = sum_by-cons (λ (e : Entry). cond (seals n e) 1 0) (entry t Exhausted) (issues t os) in omega arith
-issues_seals n t (job.Unissued seat SeatClosed ∷ os) = issues_seals n t os
-issues_seals n t (job.Unissued seat NoMemory ∷ os) = issues_seals n t os
-
-issues_spoils : (n t : ℕ) (os : List Outcome) → count_by (spoils n) (issues t os) ≡ 0
-issues_spoils n t [] = refl
-issues_spoils n t (job.Sealed seat bytes spent ∷ os) =
-    let r = issues_spoils n t os in let c = sum_by-cons (λ (e : Entry). cond (spoils n e) 1 0) (entry t (Granted spent.number)) (issues t os) in omega arith
-issues_spoils n t (job.Spoiled seat spent ∷ os) =
-    let r = issues_spoils n t os in let c = sum_by-cons (λ (e : Entry). cond (spoils n e) 1 0) (entry t (Granted spent.number)) (issues t os) in omega arith
-issues_spoils n t (job.Unissued seat NoNumber ∷ os) =
-    let r = issues_spoils n t os in let c = sum_by-cons (λ (e : Entry). cond (spoils n e) 1 0) (entry t Exhausted) (issues t os) in omega arith
-issues_spoils n t (job.Unissued seat SeatClosed ∷ os) = issues_spoils n t os
-issues_spoils n t (job.Unissued seat NoMemory ∷ os) = issues_spoils n t os
+issues_settles n t os = issues_none (settles n) t (λ k. refl) refl os
 
 issues_grants : (n t : ℕ) (os : List Outcome) → count_by (grants n) (issues t os) ≡ count_by (holds n) os
 issues_grants n t [] = refl
@@ -129,15 +106,15 @@ pub after_batch : (old new : List SeatView) (os : List Outcome) (lines : List Fi
     → Accounts lines voids (operations_of old) → AreHeld lines voids os (operations_of new)
 after_batch old new os lines voids long among issued a = record {
   told = λ n.
-      let s = grown (seals n) (λ _. 0) (λ t l. issues_seals n t l) (λ i. of_seat i os) old new long issued in
+      let s = grown (seals n) (λ _. 0) (λ t l. issues_none (seals n) t (λ k. refl) refl l) (λ i. of_seat i os) old new long issued in
       let z = sum_below_zeros (length old) in
       let h = a.told n in omega arith;
   voided = λ n.
-      let v = grown (spoils n) (λ _. 0) (λ t l. issues_spoils n t l) (λ i. of_seat i os) old new long issued in
+      let v = grown (spoils n) (λ _. 0) (λ t l. issues_none (spoils n) t (λ k. refl) refl l) (λ i. of_seat i os) old new long issued in
       let z = sum_below_zeros (length old) in
       let h = a.voided n in omega arith;
   granted = λ n.
-      let v = grown (spoils n) (λ _. 0) (λ t l. issues_spoils n t l) (λ i. of_seat i os) old new long issued in
+      let v = grown (spoils n) (λ _. 0) (λ t l. issues_none (spoils n) t (λ k. refl) refl l) (λ i. of_seat i os) old new long issued in
       let z = sum_below_zeros (length old) in
       let g = grown (grants n) (count_by (holds n)) (λ t l. issues_grants n t l) (λ i. of_seat i os) old new long issued in
       let all = shared (holds n) (length old) os among in
@@ -397,7 +374,7 @@ refused_accounts [] before earlier operations a = subst (λ (l : List FileLine).
     (subst (λ (v : List ℕ). Accounts before v operations) (sym (append-nil earlier)) a)
 refused_accounts (name ∷ names) before earlier operations a =
     let one : Accounts (before ++ line_of name (Failed OutOfMemory) ∷ []) earlier operations =
-    subst (λ (v : List ℕ). Accounts (before ++ line_of name (Failed OutOfMemory) ∷ []) v operations) (append-nil earlier) (adds_failure before earlier operations 0 name a OutOfMemory) in
+    subst (λ (v : List ℕ). Accounts (before ++ line_of name (Failed OutOfMemory) ∷ []) v operations) (append-nil earlier) (adds_failure before earlier operations name a OutOfMemory) in
     subst (λ (l : List FileLine). Accounts l (earlier ++ []) operations) (append_assoc before (line_of name (Failed OutOfMemory) ∷ []) (refused_lines names))
     (refused_accounts names (before ++ line_of name (Failed OutOfMemory) ∷ []) earlier operations one)
 

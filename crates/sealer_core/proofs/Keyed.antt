@@ -1,156 +1,184 @@
--- The record of a run beside its ledger: each number that an output has is settled. So a number that was granted and isn't
--- settled is free.
-use Rattle.std.proofs.Common.{◌≡◌, ◌∙◌, ℕ, ◌+◌, ◌<◌, ◌≤◌, cond, List, [], ◌∷◌, length, Option, None, Some, refl, ap, ap₂, sym, subst, arith, get_or, set}
-use Rattle.std.specs.Prelude.{IfSome}
+-- A record of a key and a range, in which each number that an output has is settled: it stays one. So an output may hold a
+-- container under a number that was granted and isn't settled.
+use Rattle.std.proofs.Common.{◌≡◌, ◌∙◌, ℕ, ◌+◌, ◌<◌, ◌≤◌, nat_eq, cond, List, [], ◌∷◌, Option, None, Some, refl, sym, ap, subst, arith, length, eq-eqb, ne_eqb, append-nil}
+use Rattle.std.specs.Prelude.{IfSome, option_map}
 use mathlib.Core.Logic.{dite}
+use native.Mathlib.Decide.{ℕ_discrete}
 use Rattle.std.proofs.lemmas.List.Sums.{sum_by-append}
-use Rattle.std.proofs.lemmas.Option.{slice_get-get_or}
-use Rattle.journal_core.specs.declared.entry.Entry as ledger
-use Rattle.journal_core.specs.declared.entry.Event.TheVariants.{Granted}
-use Rattle.journal_core.specs.declared.entry.Way.{Way}
-use Rattle.journal_core.specs.declared.entry.Way.TheVariants as ended
-use Rattle.journal_core.specs.declared.terms.Terms.{Terms}
-use Rattle.journal_core.specs.History.{grants, times_granted, times_settled}
-use Rattle.journal_core.specs.Range.{Numbers}
+use Rattle.container_core.specs.Container.{container}
+use Rattle.container_core.specs.Shape.{IsShape, ShapeView}
+use Rattle.journal_core.specs.declared.entry.Entry as journal
+use Rattle.journal_core.specs.History.{times_granted, times_settled}
+use Rattle.journal_core.specs.Range.{Numbers, prefix_of}
 use Rattle.journal_core.proofs.Bounds.{within}
-use Rattle.journal_core.proofs.Owners.{count_calls_le}
-use Rattle.container_core.specs.Shape.{ShapeView}
-use Rattle.ledger_core.specs.Closing.{AreAllSeats}
-use Rattle.ledger_core.specs.Shared.{Extends, GrantView, Holds, IsSameSeat, Knows, LedgerView, SeatView, spent_as}
-use Rattle.folder_core.specs.Record.{Entry, Event, Happened, RunRecord, begins, times_begun}
-use Rattle.folder_core.specs.Changes.{Becomes, IsIdle, Tells, TellsBytes, with_entry}
-use Rattle.folder_core.specs.Growth.{Grows, with_entries}
-use Rattle.folder_core.proofs.Growth.{grows_by}
-use Rattle.sealer_core.specs.Group.{IsKeyed}
-use Rattle.sealer_core.specs.Sealing.{SealedUnder, operations_of, sealed_under}
-use Rattle.sealer_core.proofs.Numbering.{granted_once, zero_of}
-use Rattle.sealer_core.proofs.Owing.{issue_settles, one_unsettled, some_one}
+use Rattle.journal_core.proofs.Owners.{in_range}
+use Rattle.ledger_core.specs.Shared.{Knows, LedgerView, SeatView}
+use Rattle.output_core.specs.Bounds.{Admits, Allows}
+use Rattle.output_core.specs.Bounds as bounds
+use Rattle.folder_core.specs.Record.{Container, Entry, Event, GivenUp, Happened, IsOfRange, RunRecord, State, begins, bound_in, bound_of, container_bound, content_at, times_begun}
+use Rattle.folder_core.specs.Changes.{Becomes, IsFresh, IsIdle, IsNew, MayHold, Tells, TellsBytes, allowed, closed_at, new_output, set_closed, set_content, with_entry}
+use Rattle.folder_core.specs.Growth.{with_entries}
+use Rattle.folder_core.proofs.Entries.{change_get, times_kept, times_more}
+use Rattle.command_core.specs.declared.line.FileOutcome.{FileOutcome}
+use Rattle.sealer_core.specs.declared.prepare.Prepared.{Prepared}
+use Rattle.sealer_core.specs.declared.prepare.Prepared.TheVariants.{Read, Refused, Unread}
+use Rattle.sealer_core.specs.Group.{AreWaiting, HavePrepared, IsEnding, IsKeyed, IsStarted, IsWaiting, filled}
+use Rattle.sealer_core.specs.Sealing.{SealedUnder}
+use Rattle.sealer_core.proofs.FileEnds.{none_begun}
+use Rattle.sealer_core.proofs.Numbering.{zero_of}
+use Rattle.sealer_core.proofs.Owing.{ending_settles}
 
--- ---- a number that no output has
+module _ (key : List ℕ) (range : Numbers) where
+  pub idle_keyed : (operations : List journal.Entry) (rest : Option RunRecord) → IfSome rest (IsKeyed key range operations) → IsIdle rest
+  idle_keyed operations None keyed = tt
+  idle_keyed operations (Some r) keyed = keyed.idle
 
--- The record is of this key and of a range of this device, the number is one of the range, and no output has it.
-pub record IsFreeUnder (u : SealedUnder) (number : ℕ) (r : RunRecord) : Type 0 where
-  pub range : Numbers
-  pub keyed : r.under ≡ Some (record { key = u.key; range = range })
-  pub device : range.device ≡ u.device
-  pub inside : (range.lo ≤ number) × (number < range.lo + range.size)
-  pub free : times_begun number r.entries ≡ 0
-
-free_more : (u : SealedUnder) (number : ℕ) (new : List Entry) (r : RunRecord) → times_begun number new ≡ 0 → IsFreeUnder u number r
-    → IsFreeUnder u number (with_entries new r)
-free_more u number new r none f = record {
-  range = f.range;
-  keyed = f.keyed;
-  device = f.device;
-  inside = f.inside;
-  free = sum_by-append (λ (x : Entry). cond (begins number x) 1 0) r.entries new ∙ ap₂ (λ n m. n + m) f.free none;
-}
-
--- after an entry without it
-pub free_after : (u : SealedUnder) (number : ℕ) (e : Entry) (before after : Option RunRecord) → times_begun number (e ∷ []) ≡ 0
-    → IfSome before (IsFreeUnder u number) → Becomes (with_entry e) before after → IfSome after (IsFreeUnder u number)
-free_after u number e before None other free came = tt
-free_after u number e before (Some r) other free (was, known, is) =
-    subst (IsFreeUnder u number) (sym is)
-    (free_more u number (e ∷ []) was other (subst (λ o. IfSome o (IsFreeUnder u number)) known free))
-
--- one of the range that isn't settled
-pub free_of : (key : List ℕ) (shape : ShapeView) (range : Numbers) (most number : ℕ) (operations : List ledger.Entry)
-    (rest : Option RunRecord) → (range.lo ≤ number) × (number < range.lo + range.size) → times_settled number operations ≡ 0
-    → IfSome rest (IsKeyed key range operations)
-    → IfSome rest (IsFreeUnder (sealed_under key shape range.device most) number)
-free_of key shape range most number operations None inside none has = tt
-free_of key shape range most number operations (Some r) inside none has = record {
-  range = range;
-  keyed = has.keyed;
-  device = refl;
-  inside = inside;
-  free = zero_of (times_begun number r.entries) (λ some. let settled = has.settled number some in omega arith);
-}
-
--- a number that a seat was granted is one of the range
-pub granted_in : (ledger : LedgerView) (old seat : SeatView) (number : ℕ) → old.terms ≡ ledger.terms → IsSameSeat old seat
-    → Knows seat → 0 < times_granted number seat.mine
-    → (ledger.terms.range.lo ≤ number) × (number < ledger.terms.range.lo + ledger.terms.range.size)
-granted_in ledger old seat number of same knows some =
-    let few = count_calls_le (grants number) seat.number seat.seen in
-    let own = ap (times_granted number) knows.own in
-    let seen : 0 < times_granted number seat.seen = omega arith in
-    let low = (granted_once seat.terms seat.seen knows.legal number).1 seen in
-    let bound = (within seat.terms seat.seen knows.legal).0 in
-    let from = low.0 in
-    let below = low.1 in
-    subst (λ (t : Terms). (t.range.lo ≤ number) × (number < t.range.lo + t.range.size)) (same.terms ∙ of) (from, omega arith)
-
--- ---- a record whose numbers are settled
-
-module _ (key : List ℕ) (range : Numbers) (operations operations' : List ledger.Entry)
-    (more : (n : ℕ) → times_settled n operations ≤ times_settled n operations') where
-  -- more was settled
-  pub keyed_more : (rest : Option RunRecord) → IfSome rest (IsKeyed key range operations) → IfSome rest (IsKeyed key range operations')
-  keyed_more None has = tt
-  keyed_more (Some r) has = record {
-    keyed = has.keyed;
-    idle = has.idle;
-    settled = λ n some. let was = has.settled n some in let grown = more n in omega arith;
+  pub keyed_start : (operations : List journal.Entry) (rest : Option RunRecord) → IfSome rest (IsStarted key range) → IfSome rest (IsKeyed key range operations)
+  keyed_start operations None started = tt
+  keyed_start operations (Some r) started = record {
+    keyed = started.keyed;
+    idle = started.idle;
+    settled = λ n some. let none = started.none n in absurd (omega arith);
   }
 
-  -- entries came, whose numbers are settled now
-  pub keyed_grows : (kind : List Entry → Type 0) (before after : Option RunRecord)
-      → ((new : List Entry) → kind new → (n : ℕ) → 0 < times_begun n new → 0 < times_settled n operations')
-      → IfSome before (IsKeyed key range operations) → Grows kind before after → IfSome after (IsKeyed key range operations')
-  keyed_grows kind before None ends has grew = tt
-  keyed_grows kind None (Some after) ends has grew = absurd grew
-  keyed_grows kind (Some before) (Some after) ends has (new, of, is) = subst (IsKeyed key range operations') (sym is) (record {
-    keyed = has.keyed;
-    idle = has.idle;
-    settled = λ n some.
-        let both = sum_by-append (λ (x : Entry). cond (begins n x) 1 0) before.entries new in
-        dite (native.Mathlib.Decide.dec_le 1 (times_begun n new))
-        (λ le. ends new of n (omega arith))
-        (λ gt. let was = has.settled n (omega arith) in let grown = more n in omega arith);
-  })
+  -- numbers were settled, or none
+  pub keyed_more : (operations operations' : List journal.Entry) (rest : Option RunRecord) → ((n : ℕ) → times_settled n operations ≤ times_settled n operations')
+      → IfSome rest (IsKeyed key range operations) → IfSome rest (IsKeyed key range operations')
+  keyed_more operations operations' None more keyed = tt
+  keyed_more operations operations' (Some r) more keyed = record {
+    keyed = keyed.keyed;
+    idle = keyed.idle;
+    settled = λ n some. let was = keyed.settled n some in let grown = more n in omega arith;
+  }
 
--- the number that the one seat was granted just now is free
-pub free_now : (key : List ℕ) (shape : ShapeView) (most : ℕ) (ledger : LedgerView) (seats : List SeatView) (d seat : SeatView)
-    (grant : GrantView) (rest : Option RunRecord) → length seats ≡ 1 → AreAllSeats ledger seats → IsSameSeat (get_or seats 0 d) seat
-    → Knows seat → ((way : Way) → Holds seat (spent_as grant way)) → Extends (get_or seats 0 d) (Granted grant.number) seat
-    → IfSome rest (IsKeyed key ledger.terms.range (operations_of seats))
-    → IfSome rest (IsFreeUnder (sealed_under key shape ledger.terms.range.device most) grant.number)
-free_now key shape most ledger seats d seat grant rest one all same knows held more has =
-    let some = some_one (length seats) one in
-    free_of key shape ledger.terms.range most grant.number (operations_of (set seats 0 seat)) rest
-    (granted_in ledger (get_or seats 0 d) seat grant.number (all.each 0 (get_or seats 0 d) (slice_get-get_or seats 0 d some)).1 same knows
-    (held ended.Void).1)
-    (one_unsettled seats seat grant.number one (held ended.Void).2)
-    (keyed_more key ledger.terms.range (operations_of seats) (operations_of (set seats 0 seat))
-    (λ n. let is = issue_settles seats d seat grant.number n some more in omega arith) rest has)
+  -- no output has a number that nobody settled
+  pub unsettled_free : (operations : List journal.Entry) (number : ℕ) (r : RunRecord) → times_settled number operations ≡ 0 → IsKeyed key range operations r
+      → times_begun number r.entries ≡ 0
+  unsettled_free operations number r none keyed = zero_of (times_begun number r.entries) (λ some. let settled = keyed.settled number some in omega arith)
 
--- an entry without a number came
-pub keyed_after : (key : List ℕ) (range : Numbers) (operations : List ledger.Entry) (e : Entry) (before after : Option RunRecord)
-    → ((n : ℕ) → times_begun n (e ∷ []) ≡ 0) → IfSome before (IsKeyed key range operations)
-    → Becomes (with_entry e) before after → IfSome after (IsKeyed key range operations)
-keyed_after key range operations e before after none has came =
-    keyed_grows key range operations operations (λ n. omega arith) (λ new. new ≡ e ∷ []) before after
-    (λ new is n some. let zero = ap (times_begun n) is ∙ none n in absurd (omega arith)) has
-    (grows_by (λ new. new ≡ e ∷ []) e refl before after came)
+  -- entries without a number came
+  keyed_with : (operations : List journal.Entry) (new : List Entry) (before : Option RunRecord) (was r : RunRecord) → ((n : ℕ) → times_begun n new ≡ 0)
+      → IfSome before (IsKeyed key range operations) → before ≡ Some was → r ≡ with_entries new was → IsKeyed key range operations r
+  keyed_with operations new before was r none keyed known is =
+      let old : IsKeyed key range operations was = subst (λ o. IfSome o (IsKeyed key range operations)) known keyed in
+      subst (IsKeyed key range operations) (sym is) (record {
+        keyed = old.keyed;
+        idle = old.idle;
+        settled = λ n some.
+            let zero = none n in
+            let both = sum_by-append (λ (x : Entry). cond (begins n x) 1 0) was.entries new in
+            old.settled n (omega arith);
+      })
 
-pub keyed_tells : (key : List ℕ) (range : Numbers) (operations : List ledger.Entry) (event : ℕ → Event) (failures : Option ℕ)
-    (before after : Option RunRecord) → IfSome before (IsKeyed key range operations) → Tells event failures before after
-    → IfSome after (IsKeyed key range operations)
-keyed_tells key range operations event failures before None has tells = tt
-keyed_tells key range operations event failures before (Some r) has (n, many, came) =
-    keyed_after key range operations (Happened (event n)) before (Some r) (λ n. refl) has came
+  pub keyed_after : (operations : List journal.Entry) (e : Entry) (before after : Option RunRecord) → ((n : ℕ) → times_begun n (e ∷ []) ≡ 0)
+      → IfSome before (IsKeyed key range operations) → Becomes (with_entry e) before after → IfSome after (IsKeyed key range operations)
+  keyed_after operations e before None none keyed came = tt
+  keyed_after operations e before (Some r) none keyed (was, known, is) = keyed_with operations (e ∷ []) before was r none keyed known is
 
-pub keyed_tells_bytes : (key : List ℕ) (range : Numbers) (operations : List ledger.Entry) (event : List ℕ → Event)
-    (left : Option (List ℕ)) (before after : Option RunRecord) → IfSome before (IsKeyed key range operations)
-    → TellsBytes event left before after → IfSome after (IsKeyed key range operations)
-keyed_tells_bytes key range operations event left before None has tells = tt
-keyed_tells_bytes key range operations event left before (Some r) has (bytes, here, came) =
-    keyed_after key range operations (Happened (event bytes)) before (Some r) (λ n. refl) has came
+  pub keyed_tells : (operations : List journal.Entry) (event : ℕ → Event) (failures : Option ℕ) (before after : Option RunRecord)
+      → IfSome before (IsKeyed key range operations) → Tells event failures before after → IfSome after (IsKeyed key range operations)
+  keyed_tells operations event failures before None keyed tells = tt
+  keyed_tells operations event failures before (Some r) keyed (n, many, came) =
+      keyed_after operations (Happened (event n)) before (Some r) (λ n. refl) keyed came
 
--- nothing is in hand
-pub keyed_idle : (key : List ℕ) (range : Numbers) (operations : List ledger.Entry) (rest : Option RunRecord)
-    → IfSome rest (IsKeyed key range operations) → IsIdle rest
-keyed_idle key range operations None has = tt
-keyed_idle key range operations (Some r) has = has.idle
+  pub keyed_tells_bytes : (operations : List journal.Entry) (event : List ℕ → Event) (left : Option (List ℕ)) (before after : Option RunRecord)
+      → IfSome before (IsKeyed key range operations) → TellsBytes event left before after → IfSome after (IsKeyed key range operations)
+  keyed_tells_bytes operations event left before None keyed tells = tt
+  keyed_tells_bytes operations event left before (Some r) keyed (bytes, here, came) =
+      keyed_after operations (Happened (event bytes)) before (Some r) (λ n. refl) keyed came
+
+  -- files were prepared
+  waiting_unnumbered : {H : Type 0} (at : H → ℕ) (under : SealedUnder) (n : ℕ) (file : Prepared H) (own : List (List ℕ)) (place : ℕ) (new : List Entry) → IsWaiting at under file own place new
+      → times_begun n new ≡ 0
+  waiting_unnumbered at under n (Refused name fault) own place new (none, adds, are) = none_begun n new are
+  waiting_unnumbered at under n (Unread name output fault) own place new (input, of, is) = ap (times_begun n) is
+  waiting_unnumbered at under n (Read name output bytes) own place new (input, of, is) = ap (times_begun n) is
+
+  all_unnumbered : {H : Type 0} (at : H → ℕ) (under : SealedUnder) (n : ℕ) (files : List (Prepared H)) (inputs : List (List ℕ)) (place : ℕ) (new : List Entry)
+      → AreWaiting at under files inputs place new → times_begun n new ≡ 0
+  all_unnumbered at under n [] inputs place new (none, empty) = ap (times_begun n) empty
+  all_unnumbered at under n (file ∷ files) inputs place new (own, others, first, rest, one, next, all, split) =
+      let here = waiting_unnumbered at under n file own place first one in
+      let more = all_unnumbered at under n files others (place + length first) rest next in
+      let both = sum_by-append (λ (x : Entry). cond (begins n x) 1 0) first rest in
+      let same = ap (times_begun n) split in omega arith
+
+  pub keyed_prepared : {H : Type 0} (at : H → ℕ) (under : SealedUnder) (files : List (Prepared H)) (inputs : List (List ℕ)) (operations : List journal.Entry) (before after : Option RunRecord)
+      → IfSome before (IsKeyed key range operations) → HavePrepared at under files inputs before after → IfSome after (IsKeyed key range operations)
+  keyed_prepared at under files inputs operations before None keyed have = tt
+  keyed_prepared at under files inputs operations before (Some r) keyed (was, new, known, waits, is) =
+      keyed_with operations new before was r (λ n. all_unnumbered at under n files inputs (length was.entries) new waits) keyed known is
+
+  -- an output was given up that was never in hand
+  pub keyed_abandoned : (place : ℕ) (operations : List journal.Entry) (before after : Option RunRecord) → IfSome before (IsKeyed key range operations)
+      → Becomes (closed_at place GivenUp [] 0) before after → IfSome after (IsKeyed key range operations)
+  keyed_abandoned place operations before None keyed becomes = tt
+  keyed_abandoned place operations before (Some r) keyed (was, known, is) =
+      let old : IsKeyed key range operations was = subst (λ o. IfSome o (IsKeyed key range operations)) known keyed in
+      subst (IsKeyed key range operations) (sym is) (record {
+        keyed = old.keyed;
+        idle = refl;
+        settled = λ n some. let same = times_kept n place (set_closed GivenUp [] 0) was.entries (λ o. refl) in old.settled n (omega arith);
+      })
+
+  -- one was in hand under a number, and that was settled
+  pub keyed_filled : (place number n : ℕ) (shape : ShapeView) (state : State) (held : List ℕ) (operations operations' : List journal.Entry) (outcome : FileOutcome) (before : Option RunRecord) (r : RunRecord)
+      → IfSome before (IsNew place) → IfSome before (IsKeyed key range operations) → IsEnding number operations operations' outcome
+      → Becomes (filled place (Container number shape) state held n) before (Some r) → IsKeyed key range operations' r
+  keyed_filled place number n shape state held operations operations' outcome before r new keyed ending (was, known, is) =
+      let old : IsKeyed key range operations was = subst (λ o. IfSome o (IsKeyed key range operations)) known keyed in
+      let waits : IsNew place was = subst (λ o. IfSome o (IsNew place)) known new in
+      subst (IsKeyed key range operations') (sym is) (record {
+        keyed = old.keyed;
+        idle = refl;
+        settled = λ m some.
+            let kept = times_kept m place (set_closed state held n) (filled_entries was) (λ o. refl) in
+            let more = times_more m place (Container number shape) (set_content (Container number shape)) was.entries (new_output waits.name) waits.there refl (λ o. refl) in
+            let count = ending_settles m number operations operations' outcome ending in
+            dite (ℕ_discrete m number)
+            (λ same. let one : cond {A = ℕ} (nat_eq m number) 1 0 ≡ 1 = ap (λ b. cond {A = ℕ} b 1 0) (eq-eqb m number same) in omega arith)
+            (λ other.
+            let none : cond {A = ℕ} (nat_eq m number) 1 0 ≡ 0 = ap (λ b. cond {A = ℕ} b 1 0) (ne_eqb m number other) in
+            let settled = old.settled m (omega arith) in omega arith);
+      })
+    where
+      filled_entries : RunRecord → List Entry
+      filled_entries was = (allowed place (Container number shape) was).entries
+
+-- ---- an output may hold a container
+
+-- a number that a seat was granted is one of the range
+pub inside_range : (ledger : LedgerView) (seat : SeatView) (number : ℕ) → seat.terms ≡ ledger.terms → Knows seat
+    → times_settled number seat.mine < times_granted number seat.mine
+    → (ledger.terms.range.lo ≤ number) × (number < ledger.terms.range.lo + ledger.terms.range.size)
+inside_range ledger seat number same knows owed =
+    let mine = ap (times_granted number) knows.own in
+    let some = in_range seat.terms seat.seen knows.legal seat.number number (omega arith) in
+    let bound = (within seat.terms seat.seen knows.legal).0 in
+    subst (λ t. (t.range.lo ≤ number) × (number < t.range.lo + t.range.size)) same (some.0, (let below = some.1 in omega arith))
+
+module _ (key : List ℕ) (range : Numbers) (shape : ShapeView) (number place : ℕ) (operations : List journal.Entry) where
+  pub may_hold : (rest : Option RunRecord) → IsShape shape → (range.lo ≤ number) × (number < range.lo + range.size) → times_settled number operations ≡ 0
+      → IfSome rest (IsNew place) → IfSome rest (IsKeyed key range operations) → IfSome rest (MayHold place (Container number shape))
+  may_hold None lawful inside none new keyed = tt
+  may_hold (Some r) lawful inside none new keyed = record {
+    new = new;
+    allowed = (lawful, subst (λ k. IsOfRange k number) (sym keyed.keyed) inside);
+    free = unsettled_free key range operations number r none keyed;
+  }
+
+  -- any container under the number may be written to it
+  pub admits_container : (device : ℕ) (rest ready : Option RunRecord) (taken : Option (List ℕ)) (failures : Option ℕ) → device ≡ range.device → IfSome rest (IsNew place)
+      → IfSome rest (IsKeyed key range operations) → Becomes (allowed place (Container number shape)) rest ready → IsFresh ready taken failures → (plain : List ℕ)
+      → Admits (option_map bound_in ready) taken (container key shape (prefix_of device number) plain)
+  admits_container device rest None taken failures of new keyed is fresh plain = tt
+  admits_container device rest (Some r) taken failures of new keyed (was, known, is) fresh plain =
+      let waits : IsNew place was = subst (λ o. IfSome o (IsNew place)) known new in
+      let old : IsKeyed key range operations was = subst (λ o. IfSome o (IsKeyed key range operations)) known keyed in
+      let bound : bound_in r ≡ bounds.Container [] key shape (prefix_of device number) =
+      ap bound_in is
+      ∙ ap (λ e. bound_of was.under (content_at e)) (change_get place (set_content (Container number shape)) was.entries (new_output waits.name) waits.there)
+      ∙ ap (λ k. container_bound k number shape) old.keyed
+      ∙ ap (λ d. bounds.Container [] key shape (prefix_of d number)) (sym of) in
+      let whole : List ℕ = container key shape (prefix_of device number) plain in
+      ([], fresh.0, subst (λ b. Allows b whole) (sym bound) (plain, ([], sym (append-nil whole))))

@@ -8,7 +8,6 @@ pub mod Granted
 pub mod Groups
 pub mod Journals
 pub mod Keyed
-pub mod KeyedGroups
 pub mod Lives
 pub mod Nonces
 pub mod Numbered

@@ -1,13 +1,12 @@
 -- The law on prefixes. The ranges of a device's runs rise, since each one is after the one before. So a number is in one
 -- run's range, and one output of that run has it.
-use Rattle.std.proofs.Common.{◌≡◌, ℕ, zero, suc, ◌+◌, ◌<◌, ◌≤◌, Bool, true, cond, List, [], ◌∷◌, count_by, Option, None, Some, refl, ap, ◌∙◌, subst, arith, eq-eqb}
+use Rattle.std.proofs.Common.{◌≡◌, ℕ, zero, suc, ◌+◌, ◌<◌, ◌≤◌, true, List, [], ◌∷◌, Option, None, Some, refl, ap, ◌∙◌, subst, arith, eq-eqb}
 use mathlib.Core.Logic.{dite}
 use native.Mathlib.Decide.{dec_le}
 use Rattle.std.specs.Prelude.{slice_get}
 use Rattle.std.specs.Coded.{Coded, Coded-set, code_by, coded×, coded_ℕ}
 use Rattle.std.specs.List.{AllByRecursion}
 use Rattle.std.proofs.Math.Logic.{∥∥₁_elim}
-use Rattle.std.proofs.lemmas.List.Sums.{sum_by-cons}
 use Rattle.container_core.specs.Container.{container}
 use Rattle.container_core.specs.Shape.{IsShape, ShapeView}
 use Rattle.io_core.specs.Streams.{IsFront}
@@ -18,6 +17,7 @@ use Rattle.output_core.specs.Bounds.{Allows}
 use Rattle.reserve_core.proofs.NextRun.{passed}
 use Rattle.sealer_core.specs.Theorem.{AreInTurn, AreRunsOf, Follows, IsKeyedBy, IsNumberedAt, IsRun, Place, Run}
 use Rattle.sealer_core.proofs.Lives.{not_apart}
+use Rattle.sealer_core.proofs.Numbering.{one_alone}
 
 -- ---- lists
 
@@ -48,42 +48,6 @@ module _ {A : Type 0} (P : A → Type 0) (next : A → A → Type 0) (lo end : A
   all_behind (z ∷ xs) all turn zero (suc j) x y less at also =
       let same : z ≡ x = cc in subst (λ (x : A). end x ≤ lo y) same (others_behind z xs all.0 all.1 turn j y also)
   all_behind (z ∷ xs) all turn (suc i) (suc j) x y less at also = all_behind xs all.1 (rest_in_turn z xs turn) i j x y (omega arith) at also
-
-module _ {A : Type 0} (p : A → Bool) where
-  count_cons : (x : A) (xs : List A) → count_by p (x ∷ xs) ≡ cond (p x) 1 0 + count_by p xs
-  count_cons x xs = sum_by-cons (λ (y : A). cond (p y) 1 0) x xs
-
-  counted_by : (x : A) (b : Bool) → p x ≡ b → cond {A = ℕ} (p x) 1 0 ≡ cond b 1 0
-  counted_by x b is = ap (λ b. cond {A = ℕ} b 1 0) is
-
-  counts : (xs : List A) (i : ℕ) (x : A) → slice_get xs i ≡ Some x → p x ≡ true → 0 < count_by p xs
-  counts [] i x at hit = absurd (cc)
-  counts (y ∷ xs) zero x at hit =
-      let same : y ≡ x = cc in
-      let all = count_cons y xs in
-      let one = counted_by y true (ap p same ∙ hit) in omega arith
-  counts (y ∷ xs) (suc i) x at hit =
-      let all = count_cons y xs in
-      let more = counts xs i x at hit in omega arith
-
-  -- where at most one is counted, two are the same
-  one_alone : (xs : List A) (i j : ℕ) (x y : A) → count_by p xs ≤ 1 → slice_get xs i ≡ Some x → slice_get xs j ≡ Some y
-      → p x ≡ true → p y ≡ true → i ≡ j
-  one_alone [] i j x y few at also hit so = absurd (cc)
-  one_alone (z ∷ xs) zero zero x y few at also hit so = refl
-  one_alone (z ∷ xs) zero (suc j) x y few at also hit so =
-      let same : z ≡ x = cc in
-      let all = count_cons z xs in
-      let one = counted_by z true (ap p same ∙ hit) in
-      let more = counts xs j y also so in absurd (omega arith)
-  one_alone (z ∷ xs) (suc i) zero x y few at also hit so =
-      let same : z ≡ y = cc in
-      let all = count_cons z xs in
-      let one = counted_by z true (ap p same ∙ so) in
-      let more = counts xs i x at hit in absurd (omega arith)
-  one_alone (z ∷ xs) (suc i) (suc j) x y few at also hit so =
-      let all = count_cons z xs in
-      ap suc (one_alone xs i j x y (omega arith) at also hit so)
 
 -- ---- an output of a sound record
 

@@ -1,5 +1,5 @@
 -- The lines and the ledger's operations agree file by file. The ledger is legal, so no number is in two lines.
-use Rattle.std.proofs.Common.{Result, Ok, Err, IsOk, IfOk, OnOk, OnErr, true, false, add-zero, ◌≡◌, ◌≢◌, ◌⊎◌, ℕ, zero, suc, ◌+◌, ◌<◌, ◌≤◌, Bool, cond, nat_eq, List, [], ◌∷◌, ◌++◌, length, count_by, refl, sym, ap, ◌∙◌, subst, inl, inr, ⊎_elim, arith, eq-eqb, ne_eqb, get_or, set, take, append-nil, Option}
+use Rattle.std.proofs.Common.{Result, Ok, Err, IsOk, IfOk, OnOk, OnErr, true, false, add-zero, ◌≡◌, ◌⊎◌, ℕ, zero, suc, ◌+◌, ◌<◌, ◌≤◌, Bool, cond, nat_eq, List, [], ◌∷◌, ◌++◌, length, count_by, refl, sym, ap, ◌∙◌, subst, inl, inr, arith, eq-eqb, ne_eqb, get_or, set, take, append-nil, Option}
 use mathlib.Core.Logic.{dite}
 use native.Mathlib.Decide.{ℕ_discrete}
 use Rattle.std.specs.Prelude.{Some, slice_get}
@@ -12,7 +12,7 @@ use Rattle.journal_core.specs.declared.entry.Way.{Way}
 use Rattle.journal_core.specs.declared.entry.Way.TheVariants as ended
 use Rattle.journal_core.specs.declared.terms.Terms.{Terms}
 use Rattle.journal_core.specs.History.{Legal, entry, is_granted, is_sealed, is_void, granted, grants, times_granted, times_settled, calls_of}
-use Rattle.journal_core.proofs.Histories.{MayReply, reply_of, count_push, count_calls, induct, legal_front, legal_none}
+use Rattle.journal_core.proofs.Histories.{MayReply, reply_of, count_push, count_calls, induct, legal_front}
 use Rattle.journal_core.proofs.Bounds.{within, sum_below, sum_below_more}
 use Rattle.journal_core.proofs.Owners.{count_calls_le, in_range}
 use Rattle.container_core.specs.declared.fault.SealFault.{SealFault}
@@ -20,10 +20,9 @@ use Rattle.ledger_core.specs.declared.fault.IssueFault.{IssueFault}
 use Rattle.ledger_core.specs.declared.fault.IssueFault.TheVariants.{SeatClosed, OutOfMemory as NotIssued, Exhausted as NoNumber}
 use Rattle.std.proofs.lemmas.Grind.{flat_map-append}
 use Rattle.ledger_core.specs.Shared.{LedgerId, LedgerView, SeatView, SpentView, GrantView, Extends, Holds, Knows, Unissued, fresh_seat, fresh_seats}
-use Rattle.ledger_core.specs.Closing.{AreAllSeats, HaveMet, IsWhole}
+use Rattle.ledger_core.specs.Closing.{AreAllSeats, IsWhole}
 use Rattle.crew_core.specs.Spending.{spent_as}
-use Rattle.command_core.specs.declared.line.FileFault.{FileFault}
-use Rattle.command_core.specs.declared.line.FileOutcome.TheVariants.{Sealed, Failed}
+use Rattle.command_core.specs.declared.line.FileOutcome.TheVariants.{Sealed}
 use Rattle.command_core.specs.Lines.{FileLine}
 use Rattle.command_core.specs.Turns.{Printed}
 use Rattle.folder_core.specs.Record.{RunRecord}
@@ -41,139 +40,16 @@ in_push n voids k = sum_by_push (λ (m : ℕ). cond (nat_eq n m) 1 0) voids k
 pub accounts_none : Accounts [] [] []
 accounts_none = record { told = λ n. omega arith; voided = λ n. omega arith; granted = λ n. omega arith }
 
--- ---- what one file adds
-
-module _ (lines : List FileLine) (voids : List ℕ) (before : List Entry) (seat : ℕ) (name : List ℕ) (a : Accounts lines voids before) where
-  -- nothing was granted
-  pub adds_failure : (fault : FileFault) → Accounts (lines ++ line_of name (Failed fault) ∷ []) (voids ++ []) before
-  adds_failure fault = record {
-    told = λ n. let t = told_push n lines (line_of name (Failed fault)) in let h = a.told n in omega arith;
-    voided = λ n. let i = in_append n voids [] in let h = a.voided n in omega arith;
-    granted = λ n. let t = told_push n lines (line_of name (Failed fault)) in let h = a.granted n in omega arith;
-  }
-
-  -- the range is exhausted
-  pub adds_exhausted : (fault : FileFault) → Accounts (lines ++ line_of name (Failed fault) ∷ []) (voids ++ []) (before ++ entry seat Exhausted ∷ [])
-  adds_exhausted fault = record {
-    told = λ n.
-        let t = told_push n lines (line_of name (Failed fault)) in
-        let s = count_push (seals n) before (entry seat Exhausted) in
-        let h = a.told n in omega arith;
-    voided = λ n.
-        let i = in_append n voids [] in
-        let v = count_push (spoils n) before (entry seat Exhausted) in
-        let h = a.voided n in omega arith;
-    granted = λ n.
-        let t = told_push n lines (line_of name (Failed fault)) in
-        let v = count_push (spoils n) before (entry seat Exhausted) in
-        let g = count_push (grants n) before (entry seat Exhausted) in
-        let h = a.granted n in omega arith;
-  }
-
-  -- a number was granted and settled
-  pub adds_void : (k : ℕ) (fault : FileFault)
-      → Accounts (lines ++ line_of name (Failed fault) ∷ []) (voids ++ k ∷ []) ((before ++ entry seat (Granted k) ∷ []) ++ entry seat (Settled k ended.Void) ∷ [])
-  adds_void k fault = record {
-    told = λ n.
-        let t = told_push n lines (line_of name (Failed fault)) in
-        let s = count_push (seals n) before (entry seat (Granted k)) in
-        let s' = count_push (seals n) (before ++ entry seat (Granted k) ∷ []) (entry seat (Settled k ended.Void)) in
-        let h = a.told n in omega arith;
-    voided = λ n.
-        let i = in_push n voids k in
-        let v = count_push (spoils n) before (entry seat (Granted k)) in
-        let v' = count_push (spoils n) (before ++ entry seat (Granted k) ∷ []) (entry seat (Settled k ended.Void)) in
-        let h = a.voided n in omega arith;
-    granted = λ n.
-        let t = told_push n lines (line_of name (Failed fault)) in
-        let v = count_push (spoils n) before (entry seat (Granted k)) in
-        let v' = count_push (spoils n) (before ++ entry seat (Granted k) ∷ []) (entry seat (Settled k ended.Void)) in
-        let g = count_push (grants n) before (entry seat (Granted k)) in
-        let g' = count_push (grants n) (before ++ entry seat (Granted k) ∷ []) (entry seat (Settled k ended.Void)) in
-        let h = a.granted n in omega arith;
-  }
-
-  pub adds_sealed : (k bytes : ℕ)
-      → Accounts (lines ++ line_of name (Sealed k bytes) ∷ []) (voids ++ []) ((before ++ entry seat (Granted k) ∷ []) ++ entry seat (Settled k ended.Sealed) ∷ [])
-  adds_sealed k bytes = record {
-    told = λ n.
-        let t = told_push n lines (line_of name (Sealed k bytes)) in
-        let s = count_push (seals n) before (entry seat (Granted k)) in
-        let s' = count_push (seals n) (before ++ entry seat (Granted k) ∷ []) (entry seat (Settled k ended.Sealed)) in
-        let h = a.told n in omega arith;
-    voided = λ n.
-        let i = in_append n voids [] in
-        let v = count_push (spoils n) before (entry seat (Granted k)) in
-        let v' = count_push (spoils n) (before ++ entry seat (Granted k) ∷ []) (entry seat (Settled k ended.Sealed)) in
-        let h = a.voided n in omega arith;
-    granted = λ n.
-        let t = told_push n lines (line_of name (Sealed k bytes)) in
-        let v = count_push (spoils n) before (entry seat (Granted k)) in
-        let v' = count_push (spoils n) (before ++ entry seat (Granted k) ∷ []) (entry seat (Settled k ended.Sealed)) in
-        let g = count_push (grants n) before (entry seat (Granted k)) in
-        let g' = count_push (grants n) (before ++ entry seat (Granted k) ∷ []) (entry seat (Settled k ended.Sealed)) in
-        let h = a.granted n in omega arith;
-  }
-
--- the same for a seat
+-- ---- what a seat did
 
 pub mine_of : (old new : SeatView) (event : Event) → Extends old event new → new.mine ≡ old.mine ++ entry old.number event ∷ []
 mine_of old new event (between, is) = ap (λ (v : SeatView). v.mine) is
-
-number_of : (old new : SeatView) (event : Event) → Extends old event new → new.number ≡ old.number
-number_of old new event (between, is) = ap (λ (v : SeatView). v.number) is
 
 -- an issue that gave no number
 pub not_granted : (fault : IssueFault) (old new : SeatView) → Unissued fault old new → (new ≡ old) ⊎ Extends old Exhausted new
 not_granted SeatClosed old new h = inl h.1
 not_granted NotIssued old new h = inl h.1
 not_granted NoNumber old new h = inr h.1
-
-pub after_failure : (lines : List FileLine) (voids : List ℕ) (old new : SeatView) (name : List ℕ) (fault : FileFault) → (new ≡ old) ⊎ Extends old Exhausted new
-    → Accounts lines voids old.mine → Accounts (lines ++ line_of name (Failed fault) ∷ []) (voids ++ []) new.mine
-after_failure lines voids old new name fault how a = ⊎_elim
-    (λ (same : new ≡ old). subst (λ (v : SeatView). Accounts (lines ++ line_of name (Failed fault) ∷ []) (voids ++ []) v.mine) (sym same) (adds_failure lines voids old.mine 0 name a fault))
-    (λ (more : Extends old Exhausted new). subst (Accounts (lines ++ line_of name (Failed fault) ∷ []) (voids ++ [])) (sym (mine_of old new Exhausted more)) (adds_exhausted lines voids old.mine old.number name a fault))
-    how
-
--- the operations of a seat that was granted a number and then settled it
-both_of : (old mid new : SeatView) (k : ℕ) (event : Event) → Extends old (Granted k) mid → Extends mid event new
-    → new.mine ≡ (old.mine ++ entry old.number (Granted k) ∷ []) ++ entry old.number event ∷ []
-both_of old mid new k event one two =
-    mine_of mid new event two ∙ ap (λ (l : List Entry). l ++ entry mid.number event ∷ []) (mine_of old mid (Granted k) one)
-    ∙ ap (λ (t : ℕ). (old.mine ++ entry old.number (Granted k) ∷ []) ++ entry t event ∷ []) (number_of old mid (Granted k) one)
-
-pub after_sealing : (lines : List FileLine) (voids : List ℕ) (old mid new : SeatView) (name : List ℕ) (k bytes : ℕ) → Extends old (Granted k) mid
-    → Extends mid (Settled k ended.Sealed) new
-    → Accounts lines voids old.mine → Accounts (lines ++ line_of name (Sealed k bytes) ∷ []) (voids ++ []) new.mine
-after_sealing lines voids old mid new name k bytes one two a =
-    subst (Accounts (lines ++ line_of name (Sealed k bytes) ∷ []) (voids ++ [])) (sym (both_of old mid new k (Settled k ended.Sealed) one two))
-    (adds_sealed lines voids old.mine old.number name a k bytes)
-
-pub after_spoiling : (lines : List FileLine) (voids : List ℕ) (old mid new : SeatView) (name : List ℕ) (k : ℕ) (fault : FileFault) → Extends old (Granted k) mid
-    → Extends mid (Settled k ended.Void) new
-    → Accounts lines voids old.mine → Accounts (lines ++ line_of name (Failed fault) ∷ []) (voids ++ k ∷ []) new.mine
-after_spoiling lines voids old mid new name k fault one two a =
-    subst (Accounts (lines ++ line_of name (Failed fault) ∷ []) (voids ++ k ∷ [])) (sym (both_of old mid new k (Settled k ended.Void) one two))
-    (adds_void lines voids old.mine old.number name a k fault)
-
--- the same for what a sealing gave back
-pub after_run : (lines : List FileLine) (voids : List ℕ) (old mid new : SeatView) (name : List ℕ) (grant : GrantView) (spent : SpentView) (number bytes : ℕ)
-    → Extends old (Granted grant.number) mid → spent ≡ spent_as grant ended.Sealed → number ≡ grant.number
-    → Extends mid (Settled spent.number spent.way) new
-    → Accounts lines voids old.mine → Accounts (lines ++ line_of name (Sealed number bytes) ∷ []) (voids ++ []) new.mine
-after_run lines voids old mid new name grant spent number bytes one is same how a =
-    subst (λ (n : ℕ). Accounts (lines ++ line_of name (Sealed n bytes) ∷ []) (voids ++ []) new.mine) (sym same)
-    (after_sealing lines voids old mid new name grant.number bytes one
-    (subst (λ (s : SpentView). Extends mid (Settled s.number s.way) new) is how) a)
-
-pub after_fault : (lines : List FileLine) (voids : List ℕ) (old mid new : SeatView) (name : List ℕ) (grant : GrantView) (spent : SpentView) (fault : FileFault)
-    → Extends old (Granted grant.number) mid → spent ≡ spent_as grant ended.Void
-    → Extends mid (Settled spent.number spent.way) new
-    → Accounts lines voids old.mine → Accounts (lines ++ line_of name (Failed fault) ∷ []) (voids ++ grant.number ∷ []) new.mine
-after_fault lines voids old mid new name grant spent fault one is how a =
-    after_spoiling lines voids old mid new name grant.number fault one
-    (subst (λ (s : SpentView). Extends mid (Settled s.number s.way) new) is how) a
 
 -- ---- a number that is held is settled
 
@@ -195,20 +71,6 @@ spent_number (Ok bytes) grant spent sealed void = (ap (λ (s : SpentView). s.dev
 spent_number (Err fault) grant spent sealed void = (ap (λ (s : SpentView). s.device) void, ap (λ (s : SpentView). s.number) void)
 
 -- ---- the whole history has what the seats have
-
--- all seats of a ledger that have met have one whole history
-pub whole_of_met : (ledger : LedgerView) (old new : List SeatView) (history : List Entry) → AreAllSeats ledger old → HaveMet old new history
-    → (whole : List Entry) × IsWhole ledger.terms old whole
-whole_of_met ledger [] new history all met = ([], record { legal = legal_none ledger.terms; each = λ i v at. absurd (cc) })
-whole_of_met ledger (v ∷ vs) new history all met =
-    let its = met.after 0 v refl in
-    let terms : its.0.terms ≡ ledger.terms = ap (λ (z : SeatView). z.terms) its.2.1 ∙ (all.each 0 v refl).1 in (
-      history,
-      record {
-        legal = legal_front ledger.terms history its.4.0 (subst (Legal ledger.terms) its.4.1 (subst (λ (z : Terms). Legal z its.0.seen) terms its.3.legal));
-        each = met.before;
-      },
-    )
 
 pub sum_below_first : (n : ℕ) (f : ℕ → ℕ) → sum_below (suc n) f ≡ f 0 + sum_below n (λ i. f (suc i))
 sum_below_first zero f = refl
@@ -401,58 +263,58 @@ is_settled terms history lines voids legal a =
     (λ n. let told = a.told n in let all = a.granted n in omega arith) in
     g ∙ same ∙ both ∙ (λ i. sym s i + sym v i)
 
-tells_cons : (n : ℕ) (line : FileLine) (lines : List FileLine) → times_told n (line ∷ lines) ≡ cond (tells_of n line.outcome) 1 0 + times_told n lines
-tells_cons n line lines = sum_by-cons (λ (x : FileLine). cond (tells_of n x.outcome) 1 0) line lines
+module _ {A : Type 0} (p : A → Bool) where
+  count_cons : (x : A) (xs : List A) → count_by p (x ∷ xs) ≡ cond (p x) 1 0 + count_by p xs
+  count_cons x xs = sum_by-cons (λ (y : A). cond (p y) 1 0) x xs
 
-tells_itself : (line : FileLine) (n bytes : ℕ) (name : List ℕ) → line ≡ line_of name (Sealed n bytes) → cond {A = ℕ} (tells_of n line.outcome) 1 0 ≡ 1
-tells_itself line n bytes name is =
-    ap (λ (l : FileLine). cond {A = ℕ} (tells_of n l.outcome) 1 0) is ∙ ap (λ b. cond {A = ℕ} b 1 0) (eq-eqb n n refl)
+  counted_by : (x : A) (b : Bool) → p x ≡ b → cond {A = ℕ} (p x) 1 0 ≡ cond b 1 0
+  counted_by x b is = ap (λ b. cond {A = ℕ} b 1 0) is
 
-told_at : (lines : List FileLine) (i n bytes : ℕ) (name : List ℕ) → slice_get lines i ≡ Some (line_of name (Sealed n bytes)) → 1 ≤ times_told n lines
-told_at [] i n bytes name at = absurd (cc)
-told_at (line ∷ lines) zero n bytes name at =
-    let is : line ≡ line_of name (Sealed n bytes) = cc in
-    let one = tells_itself line n bytes name is in
-    let all = tells_cons n line lines in omega arith
-told_at (line ∷ lines) (suc i) n bytes name at =
-    let more = told_at lines i n bytes name at in
-    let all = tells_cons n line lines in omega arith
+  some_counted : (xs : List A) (i : ℕ) (x : A) → slice_get xs i ≡ Some x → p x ≡ true → 0 < count_by p xs
+  some_counted [] i x at hit = absurd (cc)
+  some_counted (y ∷ xs) zero x at hit =
+      let same : y ≡ x = cc in
+      let all = count_cons y xs in
+      let one = counted_by y true (ap p same ∙ hit) in omega arith
+  some_counted (y ∷ xs) (suc i) x at hit =
+      let all = count_cons y xs in
+      let more = some_counted xs i x at hit in omega arith
 
-told_twice : (lines : List FileLine) (i j n bytes more : ℕ) (name another : List ℕ) → i < j → slice_get lines i ≡ Some (line_of name (Sealed n bytes))
-    → slice_get lines j ≡ Some (line_of another (Sealed n more)) → 2 ≤ times_told n lines
-told_twice [] i j n bytes more name another less at also = absurd (cc)
-told_twice (line ∷ lines) i zero n bytes more name another less at also = absurd (omega arith)
-told_twice (line ∷ lines) zero (suc j) n bytes more name another less at also =
-    let is : line ≡ line_of name (Sealed n bytes) = cc in
-    let one = tells_itself line n bytes name is in
-    let other = told_at lines j n more another also in
-    let all = tells_cons n line lines in omega arith
-told_twice (line ∷ lines) (suc i) (suc j) n bytes more name another less at also =
-    let two = told_twice lines i j n bytes more name another (omega arith) at also in
-    let all = tells_cons n line lines in omega arith
+  -- where at most one is counted, two are the same
+  pub one_alone : (xs : List A) (i j : ℕ) (x y : A) → count_by p xs ≤ 1 → slice_get xs i ≡ Some x → slice_get xs j ≡ Some y
+      → p x ≡ true → p y ≡ true → i ≡ j
+  one_alone [] i j x y few at also hit so = absurd (cc)
+  one_alone (z ∷ xs) zero zero x y few at also hit so = refl
+  one_alone (z ∷ xs) zero (suc j) x y few at also hit so =
+      let same : z ≡ x = cc in
+      let all = count_cons z xs in
+      let one = counted_by z true (ap p same ∙ hit) in
+      let more = some_counted xs j y also so in absurd (omega arith)
+  one_alone (z ∷ xs) (suc i) zero x y few at also hit so =
+      let same : z ≡ y = cc in
+      let all = count_cons z xs in
+      let one = counted_by z true (ap p same ∙ so) in
+      let more = some_counted xs i x at hit in absurd (omega arith)
+  one_alone (z ∷ xs) (suc i) (suc j) x y few at also hit so =
+      let all = count_cons z xs in
+      ap suc (one_alone xs i j x y (omega arith) at also hit so)
 
 pub are_numbered : (terms : Terms) (history : List Entry) (lines : List FileLine) (voids : List ℕ) → Legal terms history → Accounts lines voids history
     → AreNumbered terms.range lines
 are_numbered terms history lines voids legal a = record {
   inside = λ i number bytes name at.
-      let told = told_at lines i number bytes name at in
+      let told : 0 < times_told number lines = some_counted (λ (l : FileLine). tells_of number l.outcome) lines i (line_of name (Sealed number bytes)) at (eq-eqb number number refl) in
       let has = a.granted number in
       let (few, low) = granted_once terms history legal number in
       let bound = (within terms history legal).0 in
       let (from, below) = low (omega arith) in
       (from, omega arith);
   once = λ i j one other bytes more name another apart at also same.
-      let two = twice i j one bytes more name another apart at (also ∙ ap (λ (n : ℕ). Some (line_of another (Sealed n more))) (sym same)) in
       let has = a.granted one in
-      let (few, low) = granted_once terms history legal one in
-      omega arith;
+      let few = (granted_once terms history legal one).0 in
+      apart (one_alone (λ (l : FileLine). tells_of one l.outcome) lines i j (line_of name (Sealed one bytes)) (line_of another (Sealed other more)) (omega arith) at also
+      (eq-eqb one one refl) (eq-eqb one other same));
 }
-  where
-    twice : (i j n bytes more : ℕ) (name another : List ℕ) → i ≢ j → slice_get lines i ≡ Some (line_of name (Sealed n bytes))
-        → slice_get lines j ≡ Some (line_of another (Sealed n more)) → 2 ≤ times_told n lines
-    twice i j n bytes more name another apart at also = dite (native.Mathlib.Decide.dec_le i j)
-        (λ le. told_twice lines i j n bytes more name another (omega arith) at also)
-        (λ gt. told_twice lines j i n more bytes another name (omega arith) also at)
 
 -- ---- a run
 

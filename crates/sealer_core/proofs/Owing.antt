@@ -18,7 +18,7 @@ use Rattle.journal_core.proofs.Histories.{count_push}
 use Rattle.ledger_core.specs.declared.fault.IssueFault.{IssueFault}
 use Rattle.ledger_core.specs.Shared.{LedgerView, SeatView, SpentView, GrantView, Extends, IsSameSeat, spent_as}
 use Rattle.ledger_core.specs.Closing.{AreAllSeats}
-use Rattle.ledger_core.proofs.Meetings.{get-set_here, get-set_else}
+use Rattle.ledger_core.proofs.Meetings.{get-set_here, get-set_else, unchanged}
 use Rattle.crew_core.specs.declared.outcome.Outcome.{Outcome}
 use Rattle.crew_core.specs.declared.outcome.Outcome.TheVariants as job
 use Rattle.crew_core.specs.Batch.{seat_of, of_seat}
@@ -27,18 +27,20 @@ use Rattle.command_core.specs.declared.line.FileOutcome.{FileOutcome}
 use Rattle.command_core.specs.declared.line.FileOutcome.TheVariants.{Sealed, Opened, Good, Shown, Failed}
 use Rattle.command_core.specs.Lines.{FileLine}
 use Rattle.sealer_core.specs.Group.{AreHeld, AreOwed, AreOwing, HasEnded, IsCounted, IsEnding, IsOfSeats, OwesAt, SettledAt, holds, void_at}
-use Rattle.sealer_core.specs.Sealing.{Accounts, line_of, operations_of, seals, spoils, tells_of, times_sealed, times_voided}
-use Rattle.sealer_core.proofs.Numbering.{adds_failure, in_append, in_push, mine_of, told_push}
+use Rattle.sealer_core.specs.Sealing.{Accounts, line_of, operations_of, seals, spoils, tells_of, times_sealed, times_voided, times_in}
+use Rattle.sealer_core.proofs.Numbering.{in_append, in_push, mine_of, told_push}
 
 -- ---- one seat's operation among those of all
+
+mine_counts : (p : Entry → Bool) (old new : SeatView) (event : Event) → Extends old event new
+    → count_by p new.mine ≡ count_by p old.mine + cond (p (entry old.number event)) 1 0
+mine_counts p old new event more = ap (count_by p) (mine_of old new event more) ∙ count_push p old.mine (entry old.number event)
 
 counted_by : (p : Entry → Bool) (seats : List SeatView) (i : ℕ) (d w : SeatView) (event : Event) → i < length seats → Extends (get_or seats i d) event w
     → count_by p (operations_of (set seats i w)) ≡ count_by p (operations_of seats) + cond (p (entry (get_or seats i d).number event)) 1 0
 counted_by p [] i d w event below more = absurd (omega arith)
-counted_by p (v ∷ seats) zero d w event below (between, is) =
-    let mine : w.mine ≡ v.mine ++ entry v.number event ∷ [] = ap (λ (x : SeatView). x.mine) is in
-    let push = count_push p v.mine (entry v.number event) in
-    let grown : count_by p w.mine ≡ count_by p (v.mine ++ entry v.number event ∷ []) = ap (count_by p) mine in
+counted_by p (v ∷ seats) zero d w event below more =
+    let grown = mine_counts p v w event more in
     let now = sum_by-append (λ (x : Entry). cond (p x) 1 0) w.mine (operations_of seats) in
     let was = sum_by-append (λ (x : Entry). cond (p x) 1 0) v.mine (operations_of seats) in
     omega arith
@@ -76,7 +78,21 @@ held_failed lines voids os operations name fault a = record {
   granted = λ n. let t = told_push n lines (line_of name (Failed fault)) in let h = a.granted n in omega arith;
 }
 
-pub held_fewer : (lines : List FileLine) (voids : List ℕ) (o : Outcome) (os : List Outcome) (operations : List Entry) (seat : ℕ) (fault : IssueFault) → o ≡ job.Unissued seat fault
+-- if there was no batch nothing is held
+pub nothing_held : (lines : List FileLine) (voids : List ℕ) (operations : List Entry) → Accounts lines voids operations → AreHeld lines voids [] operations
+nothing_held lines voids operations a = record { told = a.told; voided = a.voided; granted = λ n. let h = a.granted n in omega arith }
+
+-- if nothing is held any more no number is owed
+pub let_go : (lines : List FileLine) (voids : List ℕ) (operations : List Entry) → AreHeld lines voids [] operations → Accounts lines voids operations
+let_go lines voids operations a = record { told = a.told; voided = a.voided; granted = λ n. let h = a.granted n in omega arith }
+
+-- a file that failed without a number
+pub adds_failure : (lines : List FileLine) (voids : List ℕ) (operations : List Entry) (name : List ℕ) → Accounts lines voids operations → (fault : FileFault)
+    → Accounts (lines ++ line_of name (Failed fault) ∷ []) (voids ++ []) operations
+adds_failure lines voids operations name a fault =
+    let_go (lines ++ line_of name (Failed fault) ∷ []) (voids ++ []) operations (held_failed lines voids [] operations name fault (nothing_held lines voids operations a))
+
+held_fewer : (lines : List FileLine) (voids : List ℕ) (o : Outcome) (os : List Outcome) (operations : List Entry) (seat : ℕ) (fault : IssueFault) → o ≡ job.Unissued seat fault
     → AreHeld lines voids (o ∷ os) operations → AreHeld lines voids os operations
 held_fewer lines voids o os operations seat fault is a = record {
   told = a.told;
@@ -105,52 +121,92 @@ seal_counts k n old new (seat, one) =
 
 module _ (lines : List FileLine) (voids : List ℕ) (o : Outcome) (os : List Outcome) (k : ℕ) (old new : List Entry) (name : List ℕ) (its : (n : ℕ) → holds n o ≡ nat_eq n k)
     (a : AreHeld lines voids (o ∷ os) old) where
-  held_void : (outcome : FileOutcome) → ((n : ℕ) → tells_of n outcome ≡ false) → IsCounted old new (Settled k ended.Void)
-      → AreHeld (lines ++ line_of name outcome ∷ []) (voids ++ k ∷ []) os new
-  held_void outcome none how = record {
+  held_settled : (outcome : FileOutcome) (void : List ℕ) (sealed voided : ℕ → ℕ) → ((n : ℕ) → Settling k n old new (sealed n) (voided n))
+      → ((n : ℕ) → cond {A = ℕ} (tells_of n outcome) 1 0 ≡ sealed n) → ((n : ℕ) → times_in n void ≡ voided n)
+      → ((n : ℕ) → sealed n + voided n ≡ cond {A = ℕ} (nat_eq n k) 1 0) → AreHeld (lines ++ line_of name outcome ∷ []) (voids ++ void) os new
+  held_settled outcome void sealed voided how telling voiding one = record {
     told = λ n.
-        let t = told_push n lines (line_of name outcome) in
-        let no : cond {A = ℕ} (tells_of n outcome) 1 0 ≡ 0 = ap (λ b. cond {A = ℕ} b 1 0) (none n) in
-        let s = void_counts k n old new how in let seal = s.seal in
+        let t = told_push n lines (line_of name outcome) in let tells = telling n in
+        let seal = (how n).seal in
         let h = a.told n in omega arith;
     voided = λ n.
-        let i = in_push n voids k in
-        let s = void_counts k n old new how in let void = s.void in
+        let i = in_append n voids void in let its_void = voiding n in
+        let void = (how n).void in
         let h = a.voided n in omega arith;
     granted = λ n.
-        let t = told_push n lines (line_of name outcome) in
-        let no : cond {A = ℕ} (tells_of n outcome) 1 0 ≡ 0 = ap (λ b. cond {A = ℕ} b 1 0) (none n) in
-        let s = void_counts k n old new how in let void = s.void in let grant = s.grant in
+        let t = told_push n lines (line_of name outcome) in let tells = telling n in
+        let void = (how n).void in let grant = (how n).grant in let once = one n in
         let c = held_cons n o os in
         let i : cond {A = ℕ} (holds n o) 1 0 ≡ cond {A = ℕ} (nat_eq n k) 1 0 = ap (λ b. cond {A = ℕ} b 1 0) (its n) in
         let h = a.granted n in omega arith;
   }
 
-  held_sealed : (bytes : ℕ) → IsCounted old new (Settled k ended.Sealed) → AreHeld (lines ++ line_of name (Sealed k bytes) ∷ []) (voids ++ []) os new
-  held_sealed bytes how = record {
-    told = λ n.
-        let t = told_push n lines (line_of name (Sealed k bytes)) in
-        let s = seal_counts k n old new how in let seal = s.seal in
-        let h = a.told n in omega arith;
-    voided = λ n.
-        let i = in_append n voids [] in
-        let s = seal_counts k n old new how in let void = s.void in
-        let h = a.voided n in omega arith;
-    granted = λ n.
-        let t = told_push n lines (line_of name (Sealed k bytes)) in
-        let s = seal_counts k n old new how in let void = s.void in let grant = s.grant in
-        let c = held_cons n o os in
-        let i : cond {A = ℕ} (holds n o) 1 0 ≡ cond {A = ℕ} (nat_eq n k) 1 0 = ap (λ b. cond {A = ℕ} b 1 0) (its n) in
-        let h = a.granted n in omega arith;
-  }
+  held_void : (outcome : FileOutcome) → ((n : ℕ) → tells_of n outcome ≡ false) → IsCounted old new (Settled k ended.Void)
+      → AreHeld (lines ++ line_of name outcome ∷ []) (voids ++ k ∷ []) os new
+  held_void outcome none how =
+      held_settled outcome (k ∷ []) (λ n. 0) (λ n. cond (nat_eq n k) 1 0) (λ n. void_counts k n old new how) (λ n. ap (λ b. cond {A = ℕ} b 1 0) (none n))
+      (λ n. let push : times_in n (k ∷ []) ≡ 0 + cond {A = ℕ} (nat_eq n k) 1 0 = in_push n [] k in omega arith) (λ n. omega arith)
 
   -- the number of an outcome ends as its file's line says
   pub held_ended : (outcome : FileOutcome) → IsEnding k old new outcome → AreHeld (lines ++ line_of name outcome ∷ []) (voids ++ void_at k outcome) os new
-  held_ended (Sealed m bytes) (is, how) = subst (λ (x : ℕ). AreHeld (lines ++ line_of name (Sealed x bytes) ∷ []) (voids ++ []) os new) (sym is) (held_sealed bytes how)
+  held_ended (Sealed m bytes) (is, how) = subst (λ (x : ℕ). AreHeld (lines ++ line_of name (Sealed x bytes) ∷ []) (voids ++ []) os new) (sym is)
+      (held_settled (Sealed k bytes) [] (λ n. cond (nat_eq n k) 1 0) (λ n. 0) (λ n. seal_counts k n old new how) (λ n. refl) (λ n. refl) (λ n. omega arith))
   held_ended (Opened bytes) how = held_void (Opened bytes) (λ n. refl) how
   held_ended (Good bytes) how = held_void (Good bytes) (λ n. refl) how
   held_ended (Shown bytes facts) how = held_void (Shown bytes facts) (λ n. refl) how
   held_ended (Failed fault) how = held_void (Failed fault) (λ n. refl) how
+
+-- a number was granted: it is held as that of an outcome
+granted_counts : (lines : List FileLine) (voids : List ℕ) (grant : GrantView) (old new : List Entry) → IsCounted old new (Granted grant.number) → Accounts lines voids old
+    → AreHeld lines voids (job.Spoiled 0 (spent_as grant ended.Void) ∷ []) new
+granted_counts lines voids grant old new (place, one) a = record {
+  told = λ n. let s = one (seals n) in let h = a.told n in omega arith;
+  voided = λ n. let v = one (spoils n) in let h = a.voided n in omega arith;
+  granted = λ n.
+      let v = one (spoils n) in let g = one (grants n) in let h = a.granted n in
+      let c = held_cons n (job.Spoiled 0 (spent_as grant ended.Void)) [] in omega arith;
+}
+
+-- the range was exhausted
+exhausted_counts : (lines : List FileLine) (voids : List ℕ) (old new : List Entry) (name : List ℕ) (fault : FileFault) → IsCounted old new Exhausted → Accounts lines voids old
+    → Accounts (lines ++ line_of name (Failed fault) ∷ []) (voids ++ []) new
+exhausted_counts lines voids old new name fault (place, one) a = record {
+  told = λ n. let t = told_push n lines (line_of name (Failed fault)) in let s = one (seals n) in let h = a.told n in omega arith;
+  voided = λ n. let i = in_append n voids [] in let v = one (spoils n) in let h = a.voided n in omega arith;
+  granted = λ n. let t = told_push n lines (line_of name (Failed fault)) in let v = one (spoils n) in let g = one (grants n) in let h = a.granted n in omega arith;
+}
+
+-- ---- one seat by itself
+
+module _ (lines : List FileLine) (voids : List ℕ) (old : SeatView) (name : List ℕ) (a : Accounts lines voids old.mine) where
+  -- it granted no number
+  pub after_failure : (new : SeatView) (fault : FileFault) → (new ≡ old) ⊎ Extends old Exhausted new
+      → Accounts (lines ++ line_of name (Failed fault) ∷ []) (voids ++ []) new.mine
+  after_failure new fault how = ⊎_elim
+      (λ (same : new ≡ old). subst (λ (v : SeatView). Accounts (lines ++ line_of name (Failed fault) ∷ []) (voids ++ []) v.mine) (sym same) (adds_failure lines voids old.mine name a fault))
+      (λ (more : Extends old Exhausted new). exhausted_counts lines voids old.mine new.mine name fault (old.number, λ p. mine_counts p old new Exhausted more) a)
+      how
+
+  -- it granted one, which a sealing gave back
+  module _ (mid new : SeatView) (grant : GrantView) (spent : SpentView) (one : Extends old (Granted grant.number) mid)
+      (how : Extends mid (Settled spent.number spent.way) new) where
+    after_end : (end : FileOutcome) → IsEnding grant.number mid.mine new.mine end
+        → Accounts (lines ++ line_of name end ∷ []) (voids ++ void_at grant.number end) new.mine
+    after_end end ending =
+        let_go (lines ++ line_of name end ∷ []) (voids ++ void_at grant.number end) new.mine
+        (held_ended lines voids (job.Spoiled 0 (spent_as grant ended.Void)) [] grant.number mid.mine new.mine name (λ n. refl)
+        (granted_counts lines voids grant old.mine mid.mine (old.number, λ p. mine_counts p old mid (Granted grant.number) one) a) end ending)
+
+    settled_as : (way : Way) → spent ≡ spent_as grant way → IsCounted mid.mine new.mine (Settled grant.number way)
+    settled_as way is = (mid.number, λ p. mine_counts p mid new (Settled grant.number way) (subst (λ (s : SpentView). Extends mid (Settled s.number s.way) new) is how))
+
+    pub after_run : (number bytes : ℕ) → spent ≡ spent_as grant ended.Sealed → number ≡ grant.number
+        → Accounts (lines ++ line_of name (Sealed number bytes) ∷ []) (voids ++ []) new.mine
+    after_run number bytes is same = after_end (Sealed number bytes) (same, settled_as ended.Sealed is)
+
+    pub after_fault : (fault : FileFault) → spent ≡ spent_as grant ended.Void
+        → Accounts (lines ++ line_of name (Failed fault) ∷ []) (voids ++ grant.number ∷ []) new.mine
+    after_fault fault is = after_end (Failed fault) (settled_as ended.Void is)
 
 -- ---- numbers that are owed at each seat
 
@@ -308,17 +364,8 @@ module _ (ledger : LedgerView) (seats : List SeatView) (d w : SeatView) (grant :
     (more : Extends (get_or seats 0 d) (Granted grant.number) w) where
   pub granted_held : (lines : List FileLine) (voids : List ℕ) → Accounts lines voids (operations_of seats)
       → AreHeld lines voids (job.Spoiled 0 (spent_as grant ended.Void) ∷ []) (operations_of (set seats 0 w))
-  granted_held lines voids a = held_by_count (counted_at seats 0 d w (Granted grant.number) some more)
-    where
-      held_by_count : IsCounted (operations_of seats) (operations_of (set seats 0 w)) (Granted grant.number)
-          → AreHeld lines voids (job.Spoiled 0 (spent_as grant ended.Void) ∷ []) (operations_of (set seats 0 w))
-      held_by_count (place, one) = record {
-        told = λ n. let s = one (seals n) in let h = a.told n in omega arith;
-        voided = λ n. let v = one (spoils n) in let h = a.voided n in omega arith;
-        granted = λ n.
-            let v = one (spoils n) in let g = one (grants n) in let h = a.granted n in
-            let c = held_cons n (job.Spoiled 0 (spent_as grant ended.Void)) [] in omega arith;
-      }
+  granted_held lines voids a =
+      granted_counts lines voids grant (operations_of seats) (operations_of (set seats 0 w)) (counted_at seats 0 d w (Granted grant.number) some more) a
 
   pub granted_owing : IsSameSeat (get_or seats 0 d) w → grant.device ≡ (get_or seats 0 d).terms.range.device → AreOwing ledger seats []
       → AreOwing ledger (set seats 0 w) (job.Spoiled 0 (spent_as grant ended.Void) ∷ [])
@@ -335,12 +382,10 @@ module _ (ledger : LedgerView) (seats : List SeatView) (d w : SeatView) (grant :
           let now = get-set_here seats 0 w some in
           let there : slice_get (set seats 0 w) 0 ≡ Some v = ap (slice_get (set seats 0 w)) (sym zeroth) ∙ at in
           let is : v ≡ w = cc in
-          let mine : v.mine ≡ (get_or seats 0 d).mine ++ entry (get_or seats 0 d).number (Granted grant.number) ∷ [] = ap (λ (x : SeatView). x.mine) is ∙ mine_of (get_or seats 0 d) w (Granted grant.number) more in
           let before = owing.owed.each 0 n (get_or seats 0 d) (slice_get-get_or seats 0 d some) in
-          let settled = count_push (settles n) (get_or seats 0 d).mine (entry (get_or seats 0 d).number (Granted grant.number)) in
-          let granted = count_push (grants n) (get_or seats 0 d).mine (entry (get_or seats 0 d).number (Granted grant.number)) in
-          let settled' = ap (times_settled n) mine in
-          let granted' = ap (times_granted n) mine in
+          let mine = ap (λ (x : SeatView). x.mine) is in
+          let settled = ap (times_settled n) mine ∙ mine_counts (settles n) (get_or seats 0 d) w (Granted grant.number) more in
+          let granted = ap (times_granted n) mine ∙ mine_counts (grants n) (get_or seats 0 d) w (Granted grant.number) more in
           let front = of_seat-cons n 0 (job.Spoiled 0 (spent_as grant ended.Void)) [] in
           let index : count_by (holds n) (of_seat i (job.Spoiled 0 (spent_as grant ended.Void) ∷ [])) ≡ count_by (holds n) (of_seat 0 (job.Spoiled 0 (spent_as grant ended.Void) ∷ [])) =
           ap (λ k. count_by (holds n) (of_seat k (job.Spoiled 0 (spent_as grant ended.Void) ∷ []))) zeroth in
@@ -375,11 +420,9 @@ module _ (ledger : LedgerView) (seats : List SeatView) (d w : SeatView) (some : 
           let granted = ap (times_granted n) mine in
           omega arith)
           (λ (more : Extends (get_or seats 0 d) Exhausted w).
-          let mine : v.mine ≡ (get_or seats 0 d).mine ++ entry (get_or seats 0 d).number Exhausted ∷ [] = ap (λ (x : SeatView). x.mine) is ∙ mine_of (get_or seats 0 d) w Exhausted more in
-          let settled = count_push (settles n) (get_or seats 0 d).mine (entry (get_or seats 0 d).number Exhausted) in
-          let granted = count_push (grants n) (get_or seats 0 d).mine (entry (get_or seats 0 d).number Exhausted) in
-          let settled' = ap (times_settled n) mine in
-          let granted' = ap (times_granted n) mine in
+          let mine = ap (λ (x : SeatView). x.mine) is in
+          let settled = ap (times_settled n) mine ∙ mine_counts (settles n) (get_or seats 0 d) w Exhausted more in
+          let granted = ap (times_granted n) mine ∙ mine_counts (grants n) (get_or seats 0 d) w Exhausted more in
           omega arith)
           how
 
@@ -387,29 +430,11 @@ module _ (ledger : LedgerView) (seats : List SeatView) (d w : SeatView) (some : 
       → Accounts (lines ++ line_of name (Failed fault) ∷ []) (voids ++ []) (operations_of (set seats 0 w))
   refused_accounts_at lines voids name fault a = ⊎_elim
       (λ (kept : w ≡ get_or seats 0 d).
-      subst (λ l. Accounts (lines ++ line_of name (Failed fault) ∷ []) (voids ++ []) (operations_of l)) (sym (ap (set seats 0) kept ∙ set_same seats some))
-      (adds_failure lines voids (operations_of seats) 0 name a fault))
-      (λ (more : Extends (get_or seats 0 d) Exhausted w). by_count (counted_at seats 0 d w Exhausted some more))
+      subst (λ l. Accounts (lines ++ line_of name (Failed fault) ∷ []) (voids ++ []) (operations_of l)) (sym (unchanged seats 0 d w kept))
+      (adds_failure lines voids (operations_of seats) name a fault))
+      (λ (more : Extends (get_or seats 0 d) Exhausted w).
+      exhausted_counts lines voids (operations_of seats) (operations_of (set seats 0 w)) name fault (counted_at seats 0 d w Exhausted some more) a)
       how
-    where
-      set_same : (seats : List SeatView) → 0 < length seats → set seats 0 (get_or seats 0 d) ≡ seats
-      set_same [] some = absurd (omega arith)
-      set_same (v ∷ vs) some = refl
-
-      by_count : IsCounted (operations_of seats) (operations_of (set seats 0 w)) Exhausted → Accounts (lines ++ line_of name (Failed fault) ∷ []) (voids ++ []) (operations_of (set seats 0 w))
-      by_count (place, one) = record {
-        told = λ n. let t = told_push n lines (line_of name (Failed fault)) in let s = one (seals n) in let h = a.told n in omega arith;
-        voided = λ n. let i = in_append n voids [] in let v = one (spoils n) in let h = a.voided n in omega arith;
-        granted = λ n. let t = told_push n lines (line_of name (Failed fault)) in let v = one (spoils n) in let g = one (grants n) in let h = a.granted n in omega arith;
-      }
-
--- if there was no batch nothing is held
-pub nothing_held : (lines : List FileLine) (voids : List ℕ) (operations : List Entry) → Accounts lines voids operations → AreHeld lines voids [] operations
-nothing_held lines voids operations a = record { told = a.told; voided = a.voided; granted = λ n. let h = a.granted n in omega arith }
-
--- if nothing is held any more no number is owed
-pub let_go : (lines : List FileLine) (voids : List ℕ) (operations : List Entry) → AreHeld lines voids [] operations → Accounts lines voids operations
-let_go lines voids operations a = record { told = a.told; voided = a.voided; granted = λ n. let h = a.granted n in omega arith }
 
 -- ---- what is settled
 
@@ -421,22 +446,23 @@ issue_settles seats d w number n some more = let (seat, count) = counted_at seat
 pub refusal_settles : (seats : List SeatView) (d w : SeatView) (n : ℕ) → 0 < length seats → (w ≡ get_or seats 0 d) ⊎ Extends (get_or seats 0 d) Exhausted w
     → times_settled n (operations_of (set seats 0 w)) ≡ times_settled n (operations_of seats)
 refusal_settles seats d w n some how = ⊎_elim
-    (λ (kept : w ≡ get_or seats 0 d). ap (λ l. times_settled n (operations_of l)) (ap (set seats 0) kept ∙ set_same seats some))
+    (λ (kept : w ≡ get_or seats 0 d). ap (λ l. times_settled n (operations_of l)) (unchanged seats 0 d w kept))
     (λ (more : Extends (get_or seats 0 d) Exhausted w). let (seat, count) = counted_at seats 0 d w Exhausted some more in let s = count (settles n) in omega arith)
     how
-  where
-    set_same : (seats : List SeatView) → 0 < length seats → set seats 0 (get_or seats 0 d) ≡ seats
-    set_same [] some = absurd (omega arith)
-    set_same (v ∷ vs) some = refl
 
--- an end settles its number
+-- an end is one settlement of its number
+pub ending_counted : (number : ℕ) (operations operations' : List Entry) (outcome : FileOutcome) → IsEnding number operations operations' outcome
+    → (way : Way) × IsCounted operations operations' (Settled number way)
+ending_counted number operations operations' (Sealed m bytes) (same, how) = (ended.Sealed, how)
+ending_counted number operations operations' (Opened bytes) how = (ended.Void, how)
+ending_counted number operations operations' (Good bytes) how = (ended.Void, how)
+ending_counted number operations operations' (Shown bytes facts) how = (ended.Void, how)
+ending_counted number operations operations' (Failed fault) how = (ended.Void, how)
+
 pub ending_settles : (n number : ℕ) (operations operations' : List Entry) (outcome : FileOutcome) → IsEnding number operations operations' outcome
     → times_settled n operations' ≡ times_settled n operations + cond (nat_eq n number) 1 0
-ending_settles n number operations operations' (Sealed m bytes) (same, (seat, count)) = count (settles n)
-ending_settles n number operations operations' (Opened bytes) (seat, count) = count (settles n)
-ending_settles n number operations operations' (Good bytes) (seat, count) = count (settles n)
-ending_settles n number operations operations' (Shown bytes facts) (seat, count) = count (settles n)
-ending_settles n number operations operations' (Failed fault) (seat, count) = count (settles n)
+ending_settles n number operations operations' outcome ending =
+    let (way, (seat, count)) = ending_counted number operations operations' outcome ending in count (settles n)
 
 -- ---- the one seat of a ledger
 

@@ -21,14 +21,14 @@ AddsVoid u name outcome void new = AddsSealed u name outcome new × (void ≡ gi
 
 -- ---- it isn't read
 
+pub nothing_grew : (kind : List Entry → Type 0) (rest : Option RunRecord) → kind [] → Grows kind rest rest
+nothing_grew kind None is = tt
+nothing_grew kind (Some r) is = ([], is, ap (λ l. record r { entries = l }) (sym (append-nil r.entries)))
+
 -- memory was refused
 pub nothing_added : (u : SealedUnder) (name : List ℕ) (rest : Option RunRecord)
     → Grows (AddsVoid u name (Failed line.OutOfMemory) []) rest rest
-nothing_added u name None = tt
-nothing_added u name (Some r) = ([], (refl, refl), nothing r)
-  where
-    nothing : (r : RunRecord) → r ≡ record r { entries = r.entries ++ [] }
-    nothing r = ap (λ l. record r { entries = l }) (sym (append-nil r.entries))
+nothing_added u name rest = nothing_grew (AddsVoid u name (Failed line.OutOfMemory) []) rest (refl, refl)
 
 -- it can't be opened
 pub unread_added : (u : SealedUnder) (name : List ℕ) (before after : Option RunRecord)

@@ -1,53 +1,39 @@
 -- One more group of files: what held of the sealed files so far holds with it.
-use Rattle.std.proofs.Common.{◌≡◌, ◌∙◌, ℕ, List, [], ◌∷◌, ◌++◌, Option, None, Some, refl, sym, ap, ap₂, subst, append-nil}
-use Rattle.std.proofs.lemmas.Grind.{flat_map-append}
+use Rattle.std.proofs.Common.{◌≡◌, ◌∙◌, ℕ, List, [], ◌∷◌, ◌++◌, Option, refl, sym, ap₂, subst}
 use Rattle.std.proofs.lemmas.List.{map-append}
-use Rattle.std.proofs.lemmas.List.Elements.{All-append, All-cons, All-nil}
+use Rattle.std.proofs.lemmas.List.Elements.{All-append, All-nil}
 use Rattle.journal_core.specs.declared.entry.Entry as journal
-use Rattle.folder_core.specs.Record.{Entry, RunRecord}
+use Rattle.folder_core.specs.Record.{RunRecord}
 use Rattle.folder_core.specs.Growth.{Grows}
 use Rattle.folder_core.proofs.Growth.{grows_on}
 use Rattle.command_core.specs.declared.line.FileFault.TheVariants.{OutOfMemory}
 use Rattle.command_core.specs.declared.line.FileOutcome.{FileOutcome}
 use Rattle.command_core.specs.declared.line.FileOutcome.TheVariants.{Failed}
-use Rattle.command_core.specs.Files.{AddsFiles, FileEntries}
+use Rattle.command_core.specs.Files.{AddsFiles}
 use Rattle.command_core.specs.Lines.{FileLine}
 use Rattle.command_core.specs.Turns.{Printed, printed}
+use Rattle.command_core.proofs.Files.{grows_to}
 use Rattle.command_core.proofs.Telling.{nothing_told}
 use Rattle.sealer_core.specs.Group.{AddsLines, AreEnded, refused_lines}
 use Rattle.sealer_core.specs.Sealing.{Accounts, AddsSealed, AreSealed, IsOfSealing, SealedUnder, given_up_in, line_of}
 use Rattle.sealer_core.proofs.Owing.{let_go, nothing_held}
-use Rattle.sealer_core.proofs.FileEnds.{given_up_more, line_more, no_lines}
-
--- entries of some kind are of another
-grows_as : (p q : List Entry → Type 0) (before after : Option RunRecord) → ((new : List Entry) → p new → q new) → Grows p before after → Grows q before after
-grows_as p q before None also grew = tt
-grows_as p q None (Some after) also grew = absurd grew
-grows_as p q (Some before) (Some after) also (new, is, came) = (new, also new is, came)
-
-nothing_grew : (kind : List Entry → Type 0) (rest : Option RunRecord) → kind [] → Grows kind rest rest
-nothing_grew kind None is = tt
-nothing_grew kind (Some r) is = ([], is, ap (λ l. record r { entries = l }) (sym (append-nil r.entries)))
+use Rattle.sealer_core.proofs.FileEnds.{files_append, given_up_more, no_lines, one_file}
+use Rattle.sealer_core.proofs.SealedFile.{AddsVoid, nothing_grew}
 
 -- ---- a group of one, or for which memory was refused
 
 pub one_added : (under : SealedUnder) (name : List ℕ) (outcome : FileOutcome) (void : List ℕ) (before after : Option RunRecord)
-    → Grows (λ new. AddsSealed under name outcome new × (void ≡ given_up_in new)) before after
+    → Grows (AddsVoid under name outcome void) before after
     → Grows (AddsLines under (line_of name outcome ∷ []) void) before after
 one_added under name outcome void before after grew =
-    grows_as (λ new. AddsSealed under name outcome new × (void ≡ given_up_in new)) (AddsLines under (line_of name outcome ∷ []) void) before after
-    (λ new (adds, is). (line_more (AddsSealed under) [] (line_of name outcome) [] new (no_lines under).0 adds, is)) grew
+    grows_to (AddsVoid under name outcome void) (AddsLines under (line_of name outcome ∷ []) void)
+    (λ new (adds, is). (one_file (AddsSealed under) (line_of name outcome) new adds, is)) before after grew
 
 refused_adds : (under : SealedUnder) (names : List (List ℕ)) → AddsFiles (AddsSealed under) (refused_lines names) []
 refused_adds under [] = (no_lines under).0
 refused_adds under (name ∷ names) =
-    let d = refused_adds under names in
-    let file : FileEntries = record { line = line_of name (Failed OutOfMemory); entries = [] } in record {
-      files = file ∷ d.files;
-      lined = ap (λ l. line_of name (Failed OutOfMemory) ∷ l) d.lined;
-      each = All-cons (λ (f : FileEntries). AddsSealed under f.line.name f.line.outcome f.entries) file d.files refl d.each;
-      joined = d.joined;
-    }
+    let line = line_of name (Failed OutOfMemory) in
+    files_append (AddsSealed under) (line ∷ []) (refused_lines names) [] [] (one_file (AddsSealed under) line [] refl) (refused_adds under names)
 
 pub refused_added : (under : SealedUnder) (names : List (List ℕ)) (before after : Option RunRecord) → after ≡ before
     → Grows (AddsLines under (refused_lines names) []) before after
@@ -56,15 +42,6 @@ refused_added under names before after same =
     (nothing_grew (AddsLines under (refused_lines names) []) before (refused_adds under names, refl))
 
 -- ---- groups
-
-files_append : (adds : List ℕ → FileOutcome → List Entry → Type 0) (lines more : List FileLine) (one two : List Entry)
-    → AddsFiles adds lines one → AddsFiles adds more two → AddsFiles adds (lines ++ more) (one ++ two)
-files_append adds lines more one two d e = record {
-  files = d.files ++ e.files;
-  lined = map-append (λ (f : FileEntries). f.line) d.files e.files ∙ ap₂ (λ a b. a ++ b) d.lined e.lined;
-  each = All-append (λ (f : FileEntries). adds f.line.name f.line.outcome f.entries) d.files e.files d.each e.each;
-  joined = ap₂ (λ a b. a ++ b) d.joined e.joined ∙ sym (flat_map-append (λ (f : FileEntries). f.entries) d.files e.files);
-}
 
 -- before the first file
 pub nothing_sealed : (under : SealedUnder) (operations : List journal.Entry) (old : Printed) (rest : Option RunRecord) → Accounts [] [] operations

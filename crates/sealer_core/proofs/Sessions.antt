@@ -1,28 +1,27 @@
 -- Numbers that a seat owes: they were granted, and settled by no seat. And what a batch returns.
-use Rattle.std.proofs.Common.{◌≡◌, ◌⊎◌, ℕ, zero, suc, ◌<◌, ◌≤◌, Bool, cond, List, [], ◌∷◌, ◌++◌, length, map, count_by, refl, sym, ap, ◌∙◌, subst, ⊎_elim, arith, get_or, set, All, Some, append-nil}
+use Rattle.std.proofs.Common.{◌≡◌, ℕ, zero, suc, ◌<◌, ◌≤◌, Bool, cond, List, [], ◌∷◌, ◌++◌, length, map, count_by, refl, sym, ap, ◌∙◌, subst, arith, get_or, All, Some}
 use Rattle.std.specs.Prelude.{slice_get}
 use Rattle.std.proofs.lemmas.Option.{slice_get-get_or}
 use Rattle.std.proofs.lemmas.List.Elements.{All-nil, All-tail}
 use Rattle.std.proofs.lemmas.List.Sums.{sum_by-append}
-use Rattle.journal_core.specs.declared.entry.Event.TheVariants.{Granted, Exhausted}
 use Rattle.journal_core.specs.declared.entry.Entry.{Entry}
 use Rattle.journal_core.specs.History.{grants, settles, times_granted, times_settled}
-use Rattle.journal_core.specs.Range.{IsLawfulRange, Numbers}
 use Rattle.container_core.specs.Shape.{ShapeView}
-use Rattle.ledger_core.specs.Shared.{LedgerView, SeatView, Extends}
+use Rattle.ledger_core.specs.Shared.{LedgerView, SeatView}
 use Rattle.ledger_core.specs.Closing.{AreAllSeats, HaveMet}
+use Rattle.ledger_core.proofs.Meetings.{whole_of_met}
 use Rattle.crew_core.specs.Batch.{AreIssued, AreOutcomes, IsOutcome, of_seat}
 use Rattle.crew_core.specs.declared.outcome.Outcome.{Outcome}
 use Rattle.crew_core.specs.declared.outcome.Outcome.TheVariants as job
 use Rattle.command_core.specs.Lines.{FileLine}
 use Rattle.command_core.specs.declared.line.FileOutcome.{FileOutcome}
-use Rattle.command_core.specs.declared.line.FileOutcome.TheVariants.{Sealed, Opened, Good, Shown, Failed}
 use Rattle.sealer_core.specs.declared.prepare.Prepared.{Prepared}
 use Rattle.sealer_core.specs.declared.prepare.Prepared.TheVariants.{Refused, Unread, Read}
 use Rattle.sealer_core.specs.Group.{AreGrantedOnce, AreHeld, AreOwing, IsContainerUnder, IsEnding, IsOfSeats, OwesAt, left_by}
 use Rattle.sealer_core.specs.Sealing.{operations_of}
 use Rattle.sealer_core.proofs.Groups.{grown, issues_settles}
-use Rattle.sealer_core.proofs.Numbering.{granted_once, same_count, sum_below_zeros, whole_of_met}
+use Rattle.sealer_core.proofs.Numbering.{granted_once, same_count, sum_below_zeros}
+use Rattle.sealer_core.proofs.Owing.{ending_counted}
 
 -- ---- a number that is held
 
@@ -135,14 +134,9 @@ owing_met ledger old new outcomes same long all owing = record {
 -- an end grants nothing
 pub once_ended : (number : ℕ) (operations operations' : List Entry) (outcome : FileOutcome) → IsEnding number operations operations' outcome
     → AreGrantedOnce operations → AreGrantedOnce operations'
-once_ended number operations operations' outcome ending a = record { once = λ n. let same = go outcome ending n in let most = a.once n in omega arith }
-  where
-    go : (outcome : FileOutcome) → IsEnding number operations operations' outcome → (n : ℕ) → times_granted n operations' ≡ times_granted n operations
-    go (Sealed m bytes) (same, (seat, count)) n = let g = count (grants n) in omega arith
-    go (Opened bytes) (seat, count) n = let g = count (grants n) in omega arith
-    go (Good bytes) (seat, count) n = let g = count (grants n) in omega arith
-    go (Shown bytes facts) (seat, count) n = let g = count (grants n) in omega arith
-    go (Failed fault) (seat, count) n = let g = count (grants n) in omega arith
+once_ended number operations operations' outcome ending a =
+    let (way, (seat, count)) = ending_counted number operations operations' outcome ending in
+    record { once = λ n. let same = count (grants n) in let most = a.once n in omega arith }
 
 -- ---- outcomes
 

@@ -1,5 +1,5 @@
 -- An output that waited is in hand, and is closed at its place.
-use Rattle.std.proofs.Common.{◌≡◌, ◌≢◌, ◌∙◌, ℕ, Bool, true, false, List, [], Option, None, Some, sym, ap, subst, append-nil}
+use Rattle.std.proofs.Common.{◌≡◌, ◌≢◌, ◌∙◌, ℕ, Bool, true, false, List, [], Option, None, Some, sym, ap, subst}
 use Rattle.std.specs.Prelude.{IfSome, Result, Ok, Err}
 use Rattle.container_core.specs.declared.fault.SealFault.{SealFault}
 use Rattle.container_core.specs.declared.fault.SealFault.TheVariants as sealing_fault
@@ -8,9 +8,9 @@ use Rattle.folder_core.specs.Record.{Content, Finished, GivenUp, RunRecord, Stat
 use Rattle.folder_core.specs.Changes.{Becomes, Closes, IsFresh, allowed, closed}
 use Rattle.command_core.specs.declared.line.FileFault.TheVariants.{Unsealed}
 use Rattle.command_core.specs.declared.line.FileOutcome.{FileOutcome}
-use Rattle.command_core.specs.declared.line.FileOutcome.TheVariants.{Failed, Good, Opened, Sealed, Shown}
+use Rattle.command_core.specs.declared.line.FileOutcome.TheVariants.{Failed, Sealed}
 use Rattle.command_core.specs.Putting.{once_if}
-use Rattle.command_core.proofs.Puts.{count_is}
+use Rattle.command_core.proofs.Puts.{all_front, count_is}
 use Rattle.sealer_core.specs.Group.{ClosesBy, EndsBy, IsPut, filled}
 use Rattle.sealer_core.specs.Sealing.{IsOfSealing}
 
@@ -18,15 +18,9 @@ use Rattle.sealer_core.specs.Sealing.{IsOfSealing}
 pub of_sealing : (sealed : Result ℕ SealFault) (number : ℕ) (outcome : FileOutcome) → sealed ≢ Err sealing_fault.TooManyChunks → EndsBy sealed number outcome
     → IsOfSealing outcome
 of_sealing (Ok bytes) number (Sealed n m) few ends = tt
-of_sealing (Ok bytes) number (Opened n) few ends = absurd (cc)
-of_sealing (Ok bytes) number (Good n) few ends = absurd (cc)
-of_sealing (Ok bytes) number (Shown n facts) few ends = absurd (cc)
-of_sealing (Ok bytes) number (Failed fault) few ends = subst IsOfSealing (sym ends) (λ is. cc)
+of_sealing (Ok bytes) number outcome few ends = subst IsOfSealing (sym ends) (λ is. cc)
 of_sealing (Err fault) number (Sealed n m) few ends = absurd (cc)
-of_sealing (Err fault) number (Opened n) few ends = absurd (cc)
-of_sealing (Err fault) number (Good n) few ends = absurd (cc)
-of_sealing (Err fault) number (Shown n facts) few ends = absurd (cc)
-of_sealing (Err fault) number (Failed other) few ends = subst IsOfSealing (sym ends) (λ is. few (ap Err is))
+of_sealing (Err fault) number outcome few ends = subst IsOfSealing (sym ends) (λ is. few (ap Err is))
 
 -- of one whose sealing failed
 pub spoil_outcome : (fault : SealFault) (number : ℕ) (outcome : FileOutcome) → EndsBy (Err fault) number outcome → outcome ≡ Failed (Unsealed fault)
@@ -34,7 +28,7 @@ spoil_outcome fault number (Sealed n m) ends = ends
 spoil_outcome fault number outcome ends = ends
 
 -- what was taken by one that was empty
-held_is : (start taken : Option (List ℕ)) (held bytes : List ℕ) → start ≡ Some [] → taken ≡ Some held → Appends start taken bytes → held ≡ bytes
+pub held_is : (start taken : Option (List ℕ)) (held bytes : List ℕ) → start ≡ Some [] → taken ≡ Some held → Appends start taken bytes → held ≡ bytes
 held_is start taken held bytes empty some grew =
     subst (λ o. Appends (Some []) o bytes) some (subst (λ o. Appends o taken bytes) empty grew)
 
@@ -82,9 +76,6 @@ module _ (place : ℕ) (content : Content) (start taken : Option (List ℕ)) (ze
           subst (λ m. Becomes (filled place content GivenUp held m) before (Some r)) (count_is true zero failures n nil many count) came,
         )
 
-    front_of_all : (bytes : List ℕ) → Appends start taken bytes → AppendsFront start taken bytes
-    front_of_all bytes grew = (bytes, ([], sym (append-nil bytes)), grew)
-
     -- all was written
     pub put_ends : (bytes : List ℕ) (number long : ℕ) (outcome : FileOutcome) → Appends start taken bytes → failures ≡ counted false zero
         → EndsBy (Ok long) number outcome → ClosesBy (Ok long) outcome written taken failures after
@@ -92,7 +83,7 @@ module _ (place : ℕ) (content : Content) (start taken : Option (List ℕ)) (ze
     put_ends bytes number long (Sealed n m) grew count (same_number, same_long) closes =
         (same_number, same_long, filled_with Finished false bytes failures grew count closes)
     put_ends bytes number long outcome grew count end closes =
-        (end, filled_front bytes (counted true failures) (front_of_all bytes grew) (ap (counted true) count) closes)
+        (end, filled_front bytes (counted true failures) (all_front start taken bytes grew) (ap (counted true) count) closes)
 
     -- a write failed
     pub put_fails : (bytes : List ℕ) (number long : ℕ) (outcome : FileOutcome) → AppendsFront start taken bytes → failures ≡ counted true zero

@@ -1,7 +1,7 @@
 use Rattle.std.proofs.Common.{◌≡◌, List, subst, rules}
 use Rattle.ledger_core.specs.Closing.{HaveMet}
 use Rattle.ledger_core.specs.Shared.{SeatView}
-use Rattle.sealer_core.proofs.Numbering.{whole_of_met}
+use Rattle.ledger_core.proofs.Meetings.{whole_of_met}
 use Rattle.sealer_core.proofs.ending.meet.Goals as goal
 
 pub returns : goal.returns

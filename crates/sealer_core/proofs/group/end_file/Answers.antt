@@ -3,7 +3,7 @@ use Rattle.crew_core.specs.declared.outcome.Outcome.TheVariants as job
 use Rattle.sealer_core.specs.Group.{void_at}
 use Rattle.sealer_core.proofs.Groups.{held_as, held_without, void_read, void_unread}
 use Rattle.sealer_core.proofs.Owing.{ended_first, first_as, held_unissued, owes_first, owing_rest, owing_unissued}
-use Rattle.sealer_core.proofs.KeyedGroups.{keyed_abandoned}
+use Rattle.sealer_core.proofs.Keyed.{keyed_abandoned}
 use Rattle.sealer_core.proofs.Sessions.{once_ended, owed_unsettled}
 use Rattle.sealer_core.proofs.group.end_file.Goals as goal
 

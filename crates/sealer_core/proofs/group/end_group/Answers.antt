@@ -2,7 +2,7 @@ use Rattle.std.proofs.Common.{◌≡◌, [], rules}
 use Rattle.sealer_core.specs.Group.{IsContainerUnder, IsPrepared, under_in}
 use Rattle.sealer_core.proofs.Groups.{ending_none, ending_more, few_left, none_left, ending_all, rest_all}
 use Rattle.sealer_core.proofs.Owing.{owing_as}
-use Rattle.sealer_core.proofs.KeyedGroups.{idle_keyed}
+use Rattle.sealer_core.proofs.Keyed.{idle_keyed}
 use Rattle.sealer_core.proofs.Sessions.{containers_left}
 use Rattle.sealer_core.proofs.FileEnds.{all_end, first_new, one_more_ends}
 use Rattle.sealer_core.proofs.group.end_group.Goals as goal

@@ -4,7 +4,7 @@ use Rattle.journal_core.specs.History.{times_settled}
 use Rattle.sealer_core.specs.Group.{AddsLines, under_in}
 use Rattle.sealer_core.specs.Sealing.{operations_of}
 use Rattle.sealer_core.proofs.Groups.{few_jobs, few_outcomes, group_of, one_group, refused_group, single_name}
-use Rattle.sealer_core.proofs.KeyedGroups.{idle_keyed, keyed_more, keyed_prepared}
+use Rattle.sealer_core.proofs.Keyed.{idle_keyed, keyed_more, keyed_prepared}
 use Rattle.sealer_core.proofs.Sealings.{one_added, refused_added, sealed_more}
 use Rattle.sealer_core.proofs.Sessions.{held_met, met_operations, owing_met}
 use Rattle.sealer_core.proofs.FileEnds.{are_left, none_ends}

@@ -6,7 +6,7 @@ use Rattle.sealer_core.specs.Group.{under_in}
 use Rattle.sealer_core.specs.Sealing.{Accounts, AreSealed, operations_of}
 use Rattle.sealer_core.proofs.Groups.{group_names}
 use Rattle.sealer_core.proofs.Owing.{owing_none}
-use Rattle.sealer_core.proofs.KeyedGroups.{keyed_start}
+use Rattle.sealer_core.proofs.Keyed.{keyed_start}
 use Rattle.sealer_core.proofs.Numbering.{accounts_none}
 use Rattle.sealer_core.proofs.Sealings.{nothing_sealed}
 use Rattle.sealer_core.proofs.group.seal_groups.Goals as goal

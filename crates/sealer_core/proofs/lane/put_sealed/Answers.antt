@@ -1,54 +1,50 @@
 -- The number that was granted is held as that of an outcome, until it is settled.
-use Rattle.std.proofs.Common.{◌≡◌, ◌∷◌, [], nat_eq, ap, refl, set, sym, ◌∙◌}
+use Rattle.std.proofs.Common.{◌≡◌, ◌∷◌, [], arith, nat_eq, ap, refl, set, subst, sym, ◌∙◌}
 use Rattle.std.proofs.lemmas.Option.{slice_get-get_or}
 use Rattle.ledger_core.specs.Shared.{spent_as}
 use Rattle.journal_core.specs.declared.entry.Way.TheVariants as ended
 use Rattle.crew_core.specs.declared.outcome.Outcome.{Outcome}
 use Rattle.crew_core.specs.declared.outcome.Outcome.TheVariants as job
-use Rattle.container_core.specs.declared.fault.SealFault.TheVariants as fault_of
-use Rattle.command_core.specs.declared.line.FileFault.TheVariants.{Unsealed}
-use Rattle.command_core.specs.declared.line.FileOutcome.TheVariants.{Failed}
-use Rattle.folder_core.specs.Record.{Created}
+use Rattle.folder_core.specs.Record.{Created, Happened, Refused}
 use Rattle.folder_core.specs.Changes.{new_output}
-use Rattle.sealer_core.specs.Group.{uncreated_as, under_in, void_at}
+use Rattle.sealer_core.specs.Group.{IsEnding, IsKeyed, under_in, void_at}
 use Rattle.sealer_core.specs.Sealing.{operations_of}
-use Rattle.sealer_core.proofs.Keyed.{free_after, free_now, keyed_idle}
-use Rattle.sealer_core.proofs.Numbering.{adds_failure, not_granted, spent_number}
-use Rattle.sealer_core.proofs.Owing.{ended_first, granted_held, granted_owing, issue_settles, let_go, owes_first, owing_rest, refusal_settles, refused_accounts_at, refused_owing, some_one}
-use Rattle.sealer_core.proofs.SealedOutput.{admits_container, given_up_long, given_up_unissued, keyed_none, keyed_under, may_container, new_at, puts_none, puts_under, refused_put, sealed_ends}
+use Rattle.sealer_core.proofs.Keyed.{idle_keyed, keyed_abandoned, keyed_after, keyed_more}
+use Rattle.sealer_core.proofs.Numbering.{not_granted, spent_number}
+use Rattle.sealer_core.proofs.Owing.{adds_failure, ended_first, granted_held, granted_owing, let_go, owes_first, owing_rest, refusal_settles, refused_accounts_at, refused_owing, some_one}
+use Rattle.sealer_core.proofs.SealedOutput.{admits_first, given_up_long, given_up_unissued, keyed_ended, may_first, new_at, refused_put, sealed_ends}
+use Rattle.sealer_core.proofs.Waits.{however}
 use Rattle.sealer_core.proofs.lane.put_sealed.Goals as goal
 
 -- its output was refused
 
 pub returns-in-Err-clause-keyed : goal.returns-in-Err-clause-keyed
-returns-in-Err-clause-keyed g c = keyed_none (under_in c.args.context.now) c.args.output.now _ (Failed (uncreated_as c.in-Err.fault)) _ _ _ _ _ _ (λ n. refl) c.requires.keyed
-    (refused_put (under_in c.args.context.now) _ _ c.in-Err.fault _ _ c.requires.known c.in-Err.ensures.refused)
+returns-in-Err-clause-keyed g c = keyed_after _ _ _ (Happened (Refused c.args.output.now c.in-Err.fault)) _ _ (λ n. refl) c.requires.keyed c.in-Err.ensures.refused
 
 pub returns-in-Err-clause-puts : goal.returns-in-Err-clause-puts
 returns-in-Err-clause-puts g c = rw c.fault_of_create.ensures (
   [],
-  puts_none (under_in c.args.context.now) c.args.output.now _ (Failed (uncreated_as c.in-Err.fault)) _ _ (refused_put (under_in c.args.context.now) _ _ c.in-Err.fault _ _ c.requires.known c.in-Err.ensures.refused),
-  λ name lines voids a. adds_failure lines voids _ 0 name a _,
+  refused_put (under_in c.args.context.now) _ _ c.in-Err.fault _ _ c.requires.known c.in-Err.ensures.refused,
+  λ name lines voids a. adds_failure lines voids _ name a _,
 )
 
 -- its input was too long when it was opened
 
 pub abandon-requires : goal.abandon-requires
 abandon-requires g c = record {
-  new = new_at _ _ _ _ (keyed_idle _ _ _ _ c.requires.keyed) c.in-Ok.ensures.place c.in-Ok.ensures.created;
+  new = new_at _ _ _ _ (idle_keyed _ _ _ _ c.requires.keyed) c.in-Ok.ensures.place c.in-Ok.ensures.created;
 }
 
 pub returns-then-is_too_long-clause-keyed : goal.returns-then-is_too_long-clause-keyed
-returns-then-is_too_long-clause-keyed g c = keyed_none (under_in c.args.context.now) c.args.output.now _ (Failed (Unsealed fault_of.TooLong)) _ _ _ _ _ _ (λ n. refl) c.requires.keyed
-    (given_up_long (under_in c.args.context.now) _ _ _ _ _ _ (keyed_idle _ _ _ _ c.requires.keyed) c.in-Ok.ensures.place
-    c.in-Ok.ensures.created c.abandon.ensures.abandoned c.requires.known (c.is_too_long.ensures c.if-is_too_long.true))
+returns-then-is_too_long-clause-keyed g c =
+    keyed_abandoned _ _ _ _ _ _ (keyed_after _ _ _ (Created (new_output c.args.output.now)) _ _ (λ n. refl) c.requires.keyed c.in-Ok.ensures.created) c.abandon.ensures.abandoned
 
 pub returns-then-is_too_long-clause-puts : goal.returns-then-is_too_long-clause-puts
 returns-then-is_too_long-clause-puts g c = (
   [],
-  puts_none (under_in c.args.context.now) c.args.output.now _ (Failed (Unsealed fault_of.TooLong)) _ _ (given_up_long (under_in c.args.context.now) _ _ _ _ _ _ (keyed_idle _ _ _ _ c.requires.keyed) c.in-Ok.ensures.place
-      c.in-Ok.ensures.created c.abandon.ensures.abandoned c.requires.known (c.is_too_long.ensures c.if-is_too_long.true)),
-  λ name lines voids a. adds_failure lines voids _ 0 name a _,
+  given_up_long (under_in c.args.context.now) _ _ _ _ _ _ (idle_keyed _ _ _ _ c.requires.keyed) c.in-Ok.ensures.place
+      c.in-Ok.ensures.created c.abandon.ensures.abandoned c.requires.known (c.is_too_long.ensures c.if-is_too_long.true),
+  λ name lines voids a. adds_failure lines voids _ name a _,
 )
 
 -- it has no number
@@ -60,7 +56,7 @@ issue_to_file-requires g c = record {
 
 pub abandon-requires-in-Err-issue_to_file : goal.abandon-requires-in-Err-issue_to_file
 abandon-requires-in-Err-issue_to_file g c = record {
-  new = new_at _ _ _ _ (keyed_idle _ _ _ _ c.requires.keyed) c.in-Ok.ensures.place c.in-Ok.ensures.created;
+  new = new_at _ _ _ _ (idle_keyed _ _ _ _ c.requires.keyed) c.in-Ok.ensures.place c.in-Ok.ensures.created;
 }
 
 pub returns-in-Err-issue_to_file-clause-owing : goal.returns-in-Err-issue_to_file-clause-owing
@@ -69,19 +65,21 @@ returns-in-Err-issue_to_file-clause-owing g c =
     c.in-Err-issue_to_file.ensures.same c.requires.owing
 
 pub returns-in-Err-issue_to_file-clause-keyed : goal.returns-in-Err-issue_to_file-clause-keyed
-returns-in-Err-issue_to_file-clause-keyed g c = keyed_none (under_in c.args.context.now) c.args.output.now _ (Failed c.in-Err-issue_to_file.fault) _ _ _ _ _ _
-    (λ n. refusal_settles _ c.index-seats-0.result _ n (some_one _ c.requires.one) (not_granted _ _ _ c.in-Err-issue_to_file.ensures.refused.2))
-    c.requires.keyed
-    (given_up_unissued (under_in c.args.context.now) _ _ c.in-Err-issue_to_file.ensures.refused.0 _ _ _ _ _
-    c.in-Err-issue_to_file.ensures.refused.1 (keyed_idle _ _ _ _ c.requires.keyed) c.in-Ok.ensures.place c.in-Ok.ensures.created
-    c.abandon-in-Err-issue_to_file.ensures.abandoned c.requires.known)
+returns-in-Err-issue_to_file-clause-keyed g c =
+    keyed_abandoned _ _ _ _ _ _
+    (keyed_after _ _ _ (Created (new_output c.args.output.now)) _ _ (λ n. refl)
+    (keyed_more _ _ (operations_of c.args.seats.now) _ _
+    (λ n.
+    let same = refusal_settles _ c.index-seats-0.result _ n (some_one _ c.requires.one) (not_granted _ _ _ c.in-Err-issue_to_file.ensures.refused.2) in
+    omega arith)
+    c.requires.keyed) c.in-Ok.ensures.created) c.abandon-in-Err-issue_to_file.ensures.abandoned
 
 pub returns-in-Err-issue_to_file-clause-puts : goal.returns-in-Err-issue_to_file-clause-puts
 returns-in-Err-issue_to_file-clause-puts g c = (
   [],
-  puts_none (under_in c.args.context.now) c.args.output.now _ (Failed c.in-Err-issue_to_file.fault) _ _ (given_up_unissued (under_in c.args.context.now) _ _ c.in-Err-issue_to_file.ensures.refused.0 _ _ _ _ _
-      c.in-Err-issue_to_file.ensures.refused.1 (keyed_idle _ _ _ _ c.requires.keyed) c.in-Ok.ensures.place c.in-Ok.ensures.created
-      c.abandon-in-Err-issue_to_file.ensures.abandoned c.requires.known),
+  given_up_unissued (under_in c.args.context.now) _ _ c.in-Err-issue_to_file.ensures.refused.0 _ _ _ _ _
+      c.in-Err-issue_to_file.ensures.refused.1 (idle_keyed _ _ _ _ c.requires.keyed) c.in-Ok.ensures.place c.in-Ok.ensures.created
+      c.abandon-in-Err-issue_to_file.ensures.abandoned c.requires.known,
   λ name lines voids a. refused_accounts_at c.args.context.now.ledger.now c.args.seats.now c.index-seats-0.result _ (some_one _ c.requires.one)
       (not_granted _ _ _ c.in-Err-issue_to_file.ensures.refused.2) lines voids name _ a,
 )
@@ -90,13 +88,10 @@ returns-in-Err-issue_to_file-clause-puts g c = (
 
 pub allow_container-requires : goal.allow_container-requires
 allow_container-requires g c = record {
-  may = rw c.number.ensures (may_container (under_in c.args.context.now) _ _ _ _ _ c.chunk-chunk.ensures.shape
-      (keyed_idle _ _ _ _ c.requires.keyed)
-      (free_now c.args.context.now.key.now c.args.context.now.options.now.shape.now c.args.context.now.options.now.max_bytes
-      c.args.context.now.ledger.now c.args.seats.now c.index-seats-0.result c.issue_to_file.new.seat c.in-Ok-issue_to_file.grant _
-      c.requires.one c.requires.owing.all c.in-Ok-issue_to_file.ensures.same c.in-Ok-issue_to_file.ensures.knows
-      c.in-Ok-issue_to_file.ensures.held c.in-Ok-issue_to_file.ensures.granted.0 c.requires.keyed)
-      c.in-Ok.ensures.place c.in-Ok.ensures.created);
+  may = rw c.number.ensures (may_first c.args.context.now.key.now c.args.context.now.options.now.shape.now c.args.context.now.ledger.now c.args.seats.now c.index-seats-0.result
+      c.issue_to_file.new.seat c.in-Ok-issue_to_file.grant c.args.output.now _ _ _ c.requires.one c.requires.owing.all c.in-Ok-issue_to_file.ensures.same
+      c.in-Ok-issue_to_file.ensures.knows (c.in-Ok-issue_to_file.ensures.held ended.Void) c.in-Ok-issue_to_file.ensures.granted.0 c.requires.keyed
+      c.in-Ok.ensures.place c.in-Ok.ensures.created c.chunk-chunk.ensures.shape);
 }
 
 pub fill_container-sealed-requires-clause-device : goal.fill_container-sealed-requires-clause-device
@@ -106,16 +101,11 @@ fill_container-sealed-requires-clause-device g c κs within =
 
 pub fill_container-sealed-requires-clause-may : goal.fill_container-sealed-requires-clause-may
 fill_container-sealed-requires-clause-may g c κs within =
-    let u = under_in c.args.context.now in
-    let free = free_now c.args.context.now.key.now c.args.context.now.options.now.shape.now c.args.context.now.options.now.max_bytes
-    c.args.context.now.ledger.now c.args.seats.now c.index-seats-0.result c.issue_to_file.new.seat c.in-Ok-issue_to_file.grant _
-    c.requires.one c.requires.owing.all c.in-Ok-issue_to_file.ensures.same c.in-Ok-issue_to_file.ensures.knows
-    c.in-Ok-issue_to_file.ensures.held c.in-Ok-issue_to_file.ensures.granted.0 c.requires.keyed in
-    admits_container u _ _ _ _ _ _
-    (may_container u _ _ _ _ _ c.chunk-chunk.ensures.shape (keyed_idle _ _ _ _ c.requires.keyed) free
-    c.in-Ok.ensures.place c.in-Ok.ensures.created)
-    (free_after u _ (Created (new_output c.args.output.now)) _ _ refl free c.in-Ok.ensures.created)
-    (rw c.number.ensures at c.allow_container.ensures.allowed) c.allow_container.ensures.fresh
+    admits_first c.args.context.now.key.now c.args.context.now.options.now.shape.now c.args.context.now.ledger.now c.args.seats.now c.index-seats-0.result
+    c.issue_to_file.new.seat c.in-Ok-issue_to_file.grant c.args.output.now _ _ _ c.requires.one c.requires.owing.all c.in-Ok-issue_to_file.ensures.same
+    c.in-Ok-issue_to_file.ensures.knows (c.in-Ok-issue_to_file.ensures.held ended.Void) c.in-Ok-issue_to_file.ensures.granted.0 c.requires.keyed
+    c.in-Ok.ensures.place c.in-Ok.ensures.created
+    _ _ _ (rw c.number.ensures at c.allow_container.ensures.allowed) c.allow_container.ensures.fresh
 
 -- it ends
 
@@ -147,21 +137,20 @@ returns-clause-owing g c =
 
 pub returns-clause-keyed : goal.returns-clause-keyed
 returns-clause-keyed g c =
-    let u = under_in c.args.context.now in
+    let context = c.args.context.now in
     let grant = c.in-Ok-issue_to_file.grant in
-    let spent = c.fill_container-sealed.result.1 in
     let run = c.fill_container-sealed.ensures in
-    let (device, number) = spent_number _ grant spent run.sealed run.void in
-    let of_ledger : grant.device ≡ u.device =
-    c.in-Ok-issue_to_file.ensures.granted.1 ∙ ap (λ t. t.range.device) (c.requires.owing.all.each 0 _ (slice_get-get_or c.args.seats.now 0 c.index-seats-0.result (some_one _ c.requires.one))).1 in
-    keyed_under u grant.number spent.number _ _ _ _ _ (operations_of c.args.seats.now) (operations_of (set c.args.seats.now 0 c.issue_to_file.new.seat)) _ _ _
-    number
-    (λ n. issue_settles c.args.seats.now c.index-seats-0.result c.issue_to_file.new.seat grant.number n (some_one _ c.requires.one) c.in-Ok-issue_to_file.ensures.granted.0)
-    c.end_output.ensures.settled c.requires.keyed
-    (sealed_ends u grant.number _ _ _ _ _ _ _ _ _ _ _ _ _ _ _ _ c.requires.known (keyed_idle _ _ _ _ c.requires.keyed)
-    c.in-Ok.ensures.place c.in-Ok.ensures.created (rw c.number.ensures at c.allow_container.ensures.allowed)
-    c.allow_container.ensures.fresh run.rest grant.device spent.number _ _ of_ledger number run.reads run.writes run.by_bytes
-    c.end_output.ensures.outcome c.end_output.ensures.closed)
+    let seats = set c.args.seats.now 0 c.issue_to_file.new.seat in
+    let (device, number) = spent_number _ grant c.fill_container-sealed.result.1 run.sealed run.void in
+    however _ _ _ _ _ _ _ _ _ _ (rw c.number.ensures at c.allow_container.ensures.allowed) c.allow_container.ensures.fresh run.rest
+    (IsKeyed context.key.now context.ledger.now.terms.range (operations_of c.end_output.new.seats)) _ c.end_output.result
+    (λ state held n r. keyed_ended c.args.context.now.key.now c.args.context.now.options.now.shape.now c.args.context.now.ledger.now c.args.seats.now c.index-seats-0.result
+    c.issue_to_file.new.seat c.in-Ok-issue_to_file.grant c.args.output.now _ _ _ c.requires.one c.requires.owing.all c.in-Ok-issue_to_file.ensures.same
+    c.in-Ok-issue_to_file.ensures.knows (c.in-Ok-issue_to_file.ensures.held ended.Void) c.in-Ok-issue_to_file.ensures.granted.0 c.requires.keyed
+    c.in-Ok.ensures.place c.in-Ok.ensures.created
+    state held n _ _ r
+    (subst (λ n. IsEnding n (operations_of seats) (operations_of c.end_output.new.seats) c.end_output.result) number c.end_output.ensures.settled))
+    c.end_output.ensures.closed
 
 pub returns-clause-puts : goal.returns-clause-puts
 returns-clause-puts g c =
@@ -174,11 +163,11 @@ returns-clause-puts g c =
     let of_ledger : grant.device ≡ u.device =
     c.in-Ok-issue_to_file.ensures.granted.1 ∙ ap (λ t. t.range.device) (c.requires.owing.all.each 0 _ (slice_get-get_or c.args.seats.now 0 c.index-seats-0.result (some_one _ c.requires.one))).1 in (
       void_at grant.number c.end_output.result,
-      puts_under u grant.number _ _ _ _ _ (sealed_ends u grant.number _ _ _ _ _ _ _ _ _ _ _ _ _ _ _ _ c.requires.known
-          (keyed_idle _ _ _ _ c.requires.keyed)
+      sealed_ends u grant.number _ _ _ _ _ _ _ _ _ _ _ _ _ _ _ _ c.requires.known
+          (idle_keyed _ _ _ _ c.requires.keyed)
           c.in-Ok.ensures.place c.in-Ok.ensures.created (rw c.number.ensures at c.allow_container.ensures.allowed)
           c.allow_container.ensures.fresh run.rest grant.device spent.number _ _ of_ledger number run.reads run.writes run.by_bytes
-          c.end_output.ensures.outcome c.end_output.ensures.closed),
+          c.end_output.ensures.outcome c.end_output.ensures.closed,
       λ name lines voids a. let_go _ _ _ (ended_first c.args.context.now.ledger.now c.args.seats.now (o ∷ []) [] o 0 spent refl refl (λ n. ap (λ k. nat_eq n k) (sym number)) lines voids _ _ _ name c.end_output.result
           (ap (λ n. void_at n c.end_output.result) (sym number)) c.end_output.ensures.settled
           (granted_held c.args.context.now.ledger.now c.args.seats.now c.index-seats-0.result _ grant (some_one _ c.requires.one) c.in-Ok-issue_to_file.ensures.granted.0 lines voids a)),

@@ -1,7 +1,7 @@
 use Rattle.std.proofs.Common.{[], refl, ◌∙◌}
 use Rattle.sealer_core.specs.Group.{under_in}
 use Rattle.sealer_core.proofs.Keyed.{keyed_after, keyed_tells, keyed_tells_bytes}
-use Rattle.sealer_core.proofs.Numbering.{adds_failure}
+use Rattle.sealer_core.proofs.Owing.{adds_failure}
 use Rattle.sealer_core.proofs.SealedFile.{file_sealed, nothing_added, unread_added}
 use Rattle.sealer_core.proofs.lane.seal_file.Goals as goal
 
@@ -11,7 +11,7 @@ pub returns-in_default-clause-adds : goal.returns-in_default-clause-adds
 returns-in_default-clause-adds g c = (
   [],
   nothing_added (under_in c.args.context.now) c.args.name.now _,
-  λ lines voids a. adds_failure lines voids _ 0 _ a _,
+  λ lines voids a. adds_failure lines voids _ _ a _,
 )
 
 -- it can't be opened
@@ -23,7 +23,7 @@ pub returns-in_default-open-clause-adds : goal.returns-in_default-open-clause-ad
 returns-in_default-open-clause-adds g c = (
   [],
   unread_added (under_in c.args.context.now) c.args.name.now _ _ c.in_default-open.ensures.unopened,
-  λ lines voids a. adds_failure lines voids _ 0 _ a _,
+  λ lines voids a. adds_failure lines voids _ _ a _,
 )
 
 -- it is read

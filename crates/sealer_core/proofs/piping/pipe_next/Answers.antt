@@ -3,7 +3,8 @@ use Rattle.journal_core.specs.Range.{prefix_of}
 use Rattle.journal_core.specs.declared.entry.Entry.{Entry}
 use Rattle.sealer_core.specs.Piping.{stream_name}
 use Rattle.sealer_core.specs.Sealing.{Accounts}
-use Rattle.sealer_core.proofs.Numbering.{accounts_none, after_failure, after_fault, after_run, not_granted, spent_held}
+use Rattle.sealer_core.proofs.Numbering.{accounts_none, not_granted, spent_held}
+use Rattle.sealer_core.proofs.Owing.{after_failure, after_fault, after_run}
 use Rattle.sealer_core.proofs.Streams.{admits, held_now, pipes_as, stream_begun, stream_sealed, works_failed}
 use Rattle.sealer_core.proofs.piping.pipe_next.Goals as goal
 
@@ -15,7 +16,7 @@ returns-in-Err-clause-piped g c =
       works = works_failed c.args.key.now c.args.options.now.shape.now c.args.options.now.max_chunks (g.R.Source.left c.args.reader.now)
           (g.R.Source.failures c.args.reader.now) (g.W.Output.taken c.args.writer.now) (g.W.Output.failures c.args.writer.now)
           c.args.seat.now.terms.range.device c.in-Err.ensures.refused.0 c.in-Err.fault c.in-Err.ensures.refused.1;
-      accounts = after_failure [] [] _ _ stream_name _ (not_granted _ _ _ c.in-Err.ensures.refused.2) none;
+      accounts = after_failure [] [] _ stream_name none _ _ (not_granted _ _ _ c.in-Err.ensures.refused.2);
     }
 
 pub returns-in-Ok-sealed-clause-piped : goal.returns-in-Ok-sealed-clause-piped
@@ -24,8 +25,8 @@ returns-in-Ok-sealed-clause-piped g c =
     record {
       voids = [];
       works = stream_sealed _ _ _ _ _ _ _ _ _ _ _ _ _ _ _ _ (pipes_as _ _ _ _ _ _ _ _ _ _ _ _ _ _ _ c.allow_stream.ensures.taken c.allow_stream.ensures.failures c.run_pipe-sealed.ensures.pipes) c.in-Ok.ensures.granted.1 c.in-Ok-sealed.bytes c.in-Ok-sealed.is (search rules);
-      accounts = after_run [] [] c.args.seat.now _ _ stream_name c.in-Ok.grant c.run_pipe-sealed.result.1 _ _ c.in-Ok.ensures.granted.0 (search rules) (search rules)
-          c.settle_of_file.ensures.settled none;
+      accounts = after_run [] [] c.args.seat.now stream_name none _ _ c.in-Ok.grant c.run_pipe-sealed.result.1 c.in-Ok.ensures.granted.0 c.settle_of_file.ensures.settled
+          _ _ (search rules) (search rules);
     }
 
 pub returns-in-Err-sealed-clause-piped : goal.returns-in-Err-sealed-clause-piped
@@ -34,8 +35,8 @@ returns-in-Err-sealed-clause-piped g c =
     record {
       voids = c.in-Ok.grant.number ∷ [];
       works = stream_begun _ _ _ _ _ _ _ _ _ _ _ _ _ 0 _ _ (pipes_as _ _ _ _ _ _ _ _ _ _ _ _ _ _ _ c.allow_stream.ensures.taken c.allow_stream.ensures.failures c.run_pipe-sealed.ensures.pipes) c.in-Ok.ensures.granted.1 c.in-Err-sealed.fault c.in-Err-sealed.is;
-      accounts = after_fault [] [] c.args.seat.now _ _ stream_name c.in-Ok.grant c.run_pipe-sealed.result.1 _ c.in-Ok.ensures.granted.0 (search rules)
-          c.settle_of_file.ensures.settled none;
+      accounts = after_fault [] [] c.args.seat.now stream_name none _ _ c.in-Ok.grant c.run_pipe-sealed.result.1 c.in-Ok.ensures.granted.0 c.settle_of_file.ensures.settled
+          _ (search rules);
     }
 
 pub settle_of_file-requires-clause-held : goal.settle_of_file-requires-clause-held

@@ -2,7 +2,7 @@ use Rattle.std.proofs.Common.{◌≡◌, ◌∙◌, ap, sym}
 use Rattle.std.proofs.lemmas.Option.{slice_get-get_or}
 use Rattle.std.specs.Prelude.{Some, slice_get}
 use Rattle.sealer_core.specs.Sealing.{operations_of}
-use Rattle.sealer_core.proofs.KeyedGroups.{admits_container, inside_range, may_hold}
+use Rattle.sealer_core.proofs.Keyed.{admits_container, inside_range, may_hold}
 use Rattle.sealer_core.proofs.waiting.begin_waiting.Goals as goal
 
 pub allow_container-requires : goal.allow_container-requires

@@ -2,7 +2,7 @@ use Rattle.std.proofs.Common.{Err, Ok}
 use Rattle.container_core.specs.declared.fault.SealFault.TheVariants.{Write}
 use Rattle.sealer_core.specs.Group.{IsKeyed}
 use Rattle.sealer_core.specs.Sealing.{operations_of}
-use Rattle.sealer_core.proofs.KeyedGroups.{keyed_filled}
+use Rattle.sealer_core.proofs.Keyed.{keyed_filled}
 use Rattle.sealer_core.proofs.Waits.{however, of_sealing, put_ends, put_fails}
 use Rattle.sealer_core.proofs.waiting.put_waiting.Goals as goal
 

@@ -3,7 +3,7 @@ use Rattle.std.proofs.KnownBytes.{Keeps-refl}
 use Rattle.container_core.specs.declared.fault.SealFault.TheVariants.{OutOfMemory}
 use Rattle.sealer_core.specs.Group.{IsKeyed}
 use Rattle.sealer_core.specs.Sealing.{operations_of}
-use Rattle.sealer_core.proofs.KeyedGroups.{keyed_filled}
+use Rattle.sealer_core.proofs.Keyed.{keyed_filled}
 use Rattle.sealer_core.proofs.Waits.{however, spoil_ends, spoil_outcome}
 use Rattle.sealer_core.proofs.waiting.spoil_waiting.Goals as goal
 
