@@ -8,7 +8,7 @@ use Rattle.container_core.specs.Stream.{stream, stream_by}
 use Rattle.container_core.specs.declared.fault.SealFault.{SealFault}
 use Rattle.container_core.proofs.HeaderLemmas.{length-hint_of, size-header_of}
 use Rattle.sealing_core.specs.Engine.{BeginsContainer, CutsContainer, DropsRound, HasReadPlain, HasWrittenRounds, rounds_so_far, seal_read_failed, seal_write_failed}
-use Rattle.sealing_core.specs.Piped.{HasPipedContainer}
+use Rattle.sealing_core.specs.Piped.{HasPipedContainer, stream_view}
 use Rattle.io_core.specs.Reads.{ConsumesExactly, ConsumesUpTo}
 use Rattle.io_core.specs.Streams.{Appends, AppendsFront, LacksSome, counted}
 use Rattle.output_core.specs.Bounds.{Admits, Bound}
@@ -62,7 +62,7 @@ same_writes failures failures' (Err fault) e = e
 pub piped-container : (key prefix header : List ℕ) (shape : ShapeView) (most : ℕ) (left left' taken taken' : Option (List ℕ)) (failures failures' refusals refusals' : Option ℕ)
     (result : Result ℕ SealFault) → header ≡ header_of key shape prefix
     → HasPiped key header most left left' failures failures' taken taken' refusals refusals' result
-    → HasPipedContainer key shape prefix most left left' failures failures' taken taken' refusals refusals' result
+    → HasPipedContainer key shape prefix most (stream_view left failures taken refusals) (stream_view left' failures' taken' refusals') result
 piped-container key prefix header shape most left left' taken taken' failures failures' refusals refusals' result named did =
     let sized : most * size_in header ≡ most * size_of shape = ap (λ (h : List ℕ). most * size_in h) named ∙ ap (λ (s : ℕ). most * s) (size-header_of key prefix shape) in
     record {
