@@ -5,6 +5,7 @@ pub mod Sound
 pub mod Calls
 pub mod Spools
 pub mod Started
+pub mod Streams
 pub mod Back
 pub mod Distinct
 pub mod Ending

@@ -1,9 +1,9 @@
 -- A record that has no key is sound with any.
-use Rattle.std.proofs.Common.{◌≡◌, ℕ, ◌+◌, false, cond, List, [], ◌∷◌, Option, None, Some, refl, sym, ap, subst, arith}
+use Rattle.std.proofs.Common.{◌≡◌, ℕ, false, cond, List, [], ◌∷◌, Option, None, Some, refl, sym, ap, subst, arith}
 use Rattle.std.specs.List.{AllByRecursion}
 use Rattle.journal_core.specs.Range.{Numbers}
 use Rattle.output_core.specs.Bounds.{Allows, Exactly}
-use Rattle.folder_core.specs.Record.{Checked, Container, Content, Created, Entry, Happened, Holds, IsAllowed, IsSound, IsSoundWith, KeyedRange, Nothing, Output, Plain, RunRecord, bound_in, bound_of, content_in, has_number, times_begun}
+use Rattle.folder_core.specs.Record.{Checked, Container, Content, Created, Entry, Happened, Holds, IsAllowed, IsSound, IsSoundWith, KeyedRange, Nothing, Plain, RunRecord, bound_of, content_in, has_number, times_begun}
 use Rattle.folder_core.specs.Changes.{IsUnstarted, started}
 use Rattle.folder_core.proofs.Entries.{all_map, times_cons}
 

@@ -1,5 +1,5 @@
 -- What each call of a folder changes in the record of its run.
-use Rattle.std.specs.Prelude.{⊤, ◌≡◌, ℕ, zero, suc, List, [], ◌∷◌, ◌++◌, slice_get, Option, None, Some, IfSome}
+use Rattle.std.specs.Prelude.{⊤, ◌≡◌, ◌⊎◌, ℕ, zero, suc, List, [], ◌∷◌, ◌++◌, codes, slice_get, Option, None, Some, IfSome}
 use Rattle.journal_core.specs.Range.{Numbers}
 use Rattle.folder_core.specs.Record.{Checked, Container, Content, Created, Entry, Event, Happened, IsAllowed, Nothing, Open}
 use Rattle.folder_core.specs.Record.{Output, Plain, RunRecord, State, times_begun}
@@ -91,6 +91,11 @@ Closes state before taken failures after = IfSome after (λ r. (was : RunRecord)
 abbrev pub IsFresh : Option RunRecord → Option (List ℕ) → Option ℕ → Type 0
 IsFresh rest taken failures = IfSome rest (λ _. (taken ≡ Some []) × (failures ≡ Some 0))
 
+-- Where the record isn't known: what was taken, and how many writes failed, is as it was.
+abbrev pub IsKept : Option RunRecord → Option (List ℕ) → Option (List ℕ) → Option ℕ → Option ℕ → Type 0
+IsKept None taken taken' failures failures' = (taken' ≡ taken) × (failures' ≡ failures)
+IsKept (Some r) taken taken' failures failures' = ⊤
+
 -- The whole record at a moment: the output in hand holds the bytes that it took.
 abbrev pub whole_by : Option ℕ → List ℕ → RunRecord → RunRecord
 whole_by None held r = r
@@ -110,6 +115,19 @@ pub record IsNew (place : ℕ) (r : RunRecord) : Type 0 where
   pub name : List ℕ
   pub idle : r.in_hand ≡ None
   pub there : slice_get r.entries place ≡ Some (Created (new_output name))
+
+-- the name of a stream, which is an output that stays in hand when its run ends
+abbrev pub stream_name : List ℕ
+stream_name = codes "-"
+
+-- Nothing is in hand, and the output at this place is new, and a stream.
+abbrev pub IsNewStream : ℕ → RunRecord → Type 0
+IsNewStream place r = (new : IsNew place r) × (new.name ≡ stream_name)
+
+-- Nothing is in hand but a stream.
+abbrev pub HasStreamAlone : RunRecord → Type 0
+HasStreamAlone r = (r.in_hand ≡ None) ⊎ ((place : ℕ) × (output : Output) × (r.in_hand ≡ Some place)
+    × (slice_get r.entries place ≡ Some (Created output)) × (output.name ≡ stream_name))
 
 -- No other output has the number of this content.
 abbrev pub IsNumberFree : List Entry → Content → Type 0

@@ -10,8 +10,8 @@ ghost use Rattle.output_core.specs.Bounds.{Admits};
 ghost use Rattle.folder_core.specs.Record.{Checked, Closed, Container, Created, Finished, GivenUp, Happened};
 ghost use Rattle.folder_core.specs.Record.{IsSoundWith, Plain, Read, Refused, Repeated, RunRecord, Unread, Unrepeated};
 ghost use Rattle.folder_core.specs.Record.{bound_in};
-ghost use Rattle.folder_core.specs.Changes.{Becomes, Closes, TellsBytes, IsFresh, IsIdle, IsNew, MayHold, Tells, allowed};
-ghost use Rattle.folder_core.specs.Changes.{closed_at, new_output, with_entry};
+ghost use Rattle.folder_core.specs.Changes.{Becomes, Closes, HasStreamAlone, IsFresh, IsIdle, IsKept, IsNew, MayHold, Tells};
+ghost use Rattle.folder_core.specs.Changes.{TellsBytes, allowed, closed_at, new_output, with_entry};
 
 use crate::fault::FolderFault;
 use container_core::{Header, Key, Shape};
@@ -39,11 +39,14 @@ pub trait Outputs {
     ghost failures: { Self → Option ℕ } = { λ _. None };
 
     /// Takes a new output in hand. It is to hold the container of some plaintext, under this number and in this shape.
+    /// Where the record isn't known, what was taken before is counted too.
     fn allow_container(&mut self, output: Self::Handle, number: u32, shape: &Shape)
         requires may { IfSome (rest self.old) (MayHold (Self.Handle.at output) (Container number shape.now)) }
         ensures allowed { Becomes (allowed (Self.Handle.at output) (Container number shape.now))
             (rest self.old) (rest self.new) }
-        ensures fresh { IsFresh (rest self.new) (taken self.new) (failures self.new) };
+        ensures fresh { IsFresh (rest self.new) (taken self.new) (failures self.new) }
+        ensures kept { IsKept (rest self.new) (taken self.old) (taken self.new) (failures self.old)
+            (failures self.new) };
 
     /// Writes a prefix of `bytes` to the output in hand, and returns its length. A call with a nonempty slice takes at
     /// least one byte, or fails. A failed call takes none, and raises the count of failures by one (past 2^64 - 1 it is
@@ -113,10 +116,10 @@ pub trait Folder: Outputs {
         ensures taken { Self.taken self.new ≡ Self.taken self.old }
         ensures failures { Self.failures self.new ≡ Self.failures self.old };
 
-    /// Closes a file that was opened by this name. Nothing is in hand: an output of its bytes has ended, or waits. The
-    /// record has how many calls of its reader failed.
+    /// Closes a file that was opened by this name. Nothing is in hand but a stream: any other output of its bytes has
+    /// ended, or waits. The record has how many calls of its reader failed.
     fn close(&mut self, name: &str, reader: Self::Reader)
-        requires idle { IsIdle (Self.rest self.old) }
+        requires idle { IfSome (Self.rest self.old) HasStreamAlone }
         ensures closed { Tells (Closed name.now) (Self.Reader.failures reader) (Self.rest self.old)
             (Self.rest self.new) }
         ensures taken { Self.taken self.new ≡ Self.taken self.old }
@@ -163,7 +166,9 @@ pub trait OpeningFolder: Folder {
         requires may { IfSome (Self.rest self.old) (MayHold (Self.Handle.at output) (Plain N.key N.plain)) }
         ensures allowed { Becomes (allowed (Self.Handle.at output) (Plain N.key N.plain))
             (Self.rest self.old) (Self.rest self.new) }
-        ensures fresh { IsFresh (Self.rest self.new) (Self.taken self.new) (Self.failures self.new) };
+        ensures fresh { IsFresh (Self.rest self.new) (Self.taken self.new) (Self.failures self.new) }
+        ensures kept { IsKept (Self.rest self.new) (Self.taken self.old) (Self.taken self.new) (Self.failures self.old)
+            (Self.failures self.new) };
 
     /// Takes a new output in hand. It is to hold what is opened of a second reading, as far as its chunks are checked,
     /// each at its place, under the header of a first reading that opens under this key. The second may give anything.
@@ -181,5 +186,7 @@ pub trait OpeningFolder: Folder {
             × (Self.Reader.left reader.now ≡ Some last)
             × Becomes (allowed (Self.Handle.at output) (Checked key.now header.now last))
             (Self.rest self.old) (Self.rest self.new)) }
-        ensures fresh { IsFresh (Self.rest self.new) (Self.taken self.new) (Self.failures self.new) };
+        ensures fresh { IsFresh (Self.rest self.new) (Self.taken self.new) (Self.failures self.new) }
+        ensures kept { IsKept (Self.rest self.new) (Self.taken self.old) (Self.taken self.new) (Self.failures self.old)
+            (Self.failures self.new) };
 }

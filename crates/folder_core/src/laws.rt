@@ -5,8 +5,9 @@ ghost use Rattle.std.specs.Prelude.{IfSome, option_map};
 ghost use Rattle.io_core.specs.Streams.{IsFront};
 ghost use Rattle.journal_core.specs.Range.{Numbers};
 ghost use Rattle.output_core.specs.Bounds.{Admits};
-ghost use Rattle.folder_core.specs.Record.{Content, Created, IsSound, IsSoundWith, RunRecord, State, bound_in, times_begun};
-ghost use Rattle.folder_core.specs.Changes.{Becomes, Closes, IsUnstarted, allowed, new_output, started, whole, with_entry};
+ghost use Rattle.folder_core.specs.Record.{Content, Created, Entry, IsSound, IsSoundWith, RunRecord, State, bound_in, times_begun};
+ghost use Rattle.folder_core.specs.Changes.{Becomes, Closes, HasStreamAlone, IsFresh, IsKept, IsNewStream, IsUnstarted};
+ghost use Rattle.folder_core.specs.Changes.{allowed, new_output, started, whole, with_entry};
 ghost use Rattle.folder_core.specs.Growth.{Grows, PutsOut};
 ghost use Rattle.folder_core.specs.Quotes.{quoted, unquoted};
 ghost use Rattle.folder_core.specs.Trees.{IsStep, place, steps};
@@ -31,6 +32,24 @@ pub fn no_number_without_a_key()
     ensures none { (r : RunRecord) (number : ℕ) → IsSound r → r.under ≡ None → times_begun number r.entries ≡ 0 }
     ensures started { (r : RunRecord) (taken : Option (List ℕ)) (key : List ℕ) (range : Numbers) → IsUnstarted r
         → IsSoundWith (Some r) taken → IsSoundWith (Some (started key range r)) taken }
+{}
+
+/// A new stream stays new until it is taken in hand. Then it is alone in hand, and what it took and how many writes failed
+/// is as it was: nothing, or unknown, if its record is known.
+pub fn a_stream_goes_on()
+    ensures told { (place : ℕ) (entry : Entry) (before after : Option RunRecord) → IfSome before (IsNewStream place)
+        → Becomes (with_entry entry) before after → IfSome after (IsNewStream place) }
+    ensures started { (place : ℕ) (key : List ℕ) (range : Numbers) (before after : Option RunRecord)
+        → IfSome before (IsNewStream place) → Becomes (started key range) before after
+        → IfSome after (IsNewStream place) }
+    ensures alone { (place : ℕ) (content : Content) (before after : Option RunRecord)
+        → IfSome before (IsNewStream place) → Becomes (allowed place content) before after
+        → IfSome after HasStreamAlone }
+    ensures kept { (place : ℕ) (content : Content) (before after : Option RunRecord)
+        (taken taken' : Option (List ℕ)) (failures failures' : Option ℕ)
+        → Becomes (allowed place content) before after → IsFresh before taken failures
+        → IsFresh after taken' failures' → IsKept after taken taken' failures failures'
+        → (taken' ≡ taken) × (failures' ≡ failures) }
 {}
 
 /// An output that is created, taken in hand and closed is one entry after all others. Nothing was in hand before.

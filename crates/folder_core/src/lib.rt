@@ -4,7 +4,7 @@
 //! base names and places of paths, for outputs in or below one folder, and `quotes` names as a line shows them.
 //!
 //! The record of a run, for proofs alone: which files were read, and what its outputs hold, at every moment. Begin with
-//! `folder`. An engine writes to the output in hand of a folder through `hand`.
+//! `folder`. An engine writes to the output in hand of a folder through `hand`. `stream` has writers as outputs.
 #![tactic(auto)]
 
 pub mod fault;
@@ -16,6 +16,7 @@ mod places;
 pub mod quotes;
 pub mod reader;
 pub mod spool;
+pub mod stream;
 mod trees;
 
 pub use crate::fault::FolderFault;
@@ -26,4 +27,5 @@ pub use crate::places::{PlaceFault, are_apart, last_name, put_below};
 pub use crate::quotes::{quote, unquote};
 pub use crate::reader::{FileReader, WholeFile};
 pub use crate::spool::{Spool, Spooled};
+pub use crate::stream::{Stream, ToStream};
 pub use crate::trees::{are_placed_apart, first_part, place_of, put_placed};
