@@ -1,5 +1,5 @@
 -- A file of a folder that keeps a record is read, and opened to an output or verified: what comes for it.
-use Rattle.std.proofs.Common.{◌≡◌, ◌∙◌, inl, inr, ℕ, suc, Bool, false, List, [], ◌∷◌, ◌++◌, length, Option, None, Some, refl, sym, ap, subst, length-append, arith}
+use Rattle.std.proofs.Common.{◌≡◌, ◌≢◌, ◌∙◌, inl, inr, ℕ, suc, Bool, false, List, [], ◌∷◌, ◌++◌, length, Option, None, Some, refl, sym, ap, subst, length-append, arith}
 use Rattle.std.specs.Prelude.{⊤, IfSome, Result, Ok, Err, slice_get}
 use Rattle.container_core.specs.declared.fault.OpenFault.{OpenFault}
 use Rattle.container_core.specs.declared.fault.OpenFault.TheVariants as bytes
@@ -8,7 +8,6 @@ use Rattle.container_core.specs.Opening.{opening}
 use Rattle.io_core.specs.Streams.{counted}
 use Rattle.opening_core.specs.declared.twice.Stopped.TheVariants as stop
 use Rattle.opening_core.specs.Engine.{HasHeader, OpensTo}
-use Rattle.opening_core.specs.Twice.{broken_by_write}
 use Rattle.folder_core.specs.declared.fault.FolderFault.TheVariants as refusal
 use Rattle.folder_core.specs.Record.{Checked, Closed, Entry, Event, Finished, GivenUp, Happened, Plain, Read, Repeated, RunRecord, Unrepeated, WasRead, WasReadAgain}
 use Rattle.folder_core.specs.Changes.{Becomes, IsIdle, Tells, TellsBytes, with_entry}
@@ -17,7 +16,7 @@ use Rattle.folder_core.proofs.Entries.{get_end, get_more}
 use Rattle.folder_core.proofs.Growth.{grows_by, grows_on}
 use Rattle.command_core.specs.declared.facts.Facts.{Facts}
 use Rattle.command_core.specs.declared.line.FileFault.{FileFault}
-use Rattle.command_core.specs.declared.line.FileFault.TheVariants.{AnotherLabel, CannotCreate, CannotOpen, Changed, NoNumber, NoSuffix, OutOfMemory, OutputExists, SpoolFailed, Unopened, Unsealed}
+use Rattle.command_core.specs.declared.line.FileFault.TheVariants.{CannotCreate, CannotOpen, Changed, NoSuffix, OutputExists, Unopened}
 use Rattle.command_core.specs.declared.line.FileOutcome.{FileOutcome}
 use Rattle.command_core.specs.declared.line.FileOutcome.TheVariants.{Failed, Good, Opened, Shown}
 use Rattle.command_core.specs.declared.putting.FillFault.{FillFault}
@@ -26,9 +25,9 @@ use Rattle.command_core.specs.Again.{IsGood}
 use Rattle.command_core.specs.Facts.{IsOfHeader}
 use Rattle.command_core.specs.Labels.{IsLabelled}
 use Rattle.command_core.specs.Putting.{IsAgainIn, LacksPlain, PutsAgain, closed_output, fault_of_fill, once_if}
-use Rattle.command_core.specs.Files.{AddsBrokenOff, AddsVerified, AddsVerifiedRead, AddsClosed, AddsOpened, AddsOpenedRead, IsOpenFile}
-use Rattle.command_core.specs.Work.{IsFaultOf, IsOfOpening, IsOpenable, reading_failed, write_failed}
-use Rattle.command_core.proofs.Puts.{count_is, idle_grows}
+use Rattle.command_core.specs.Files.{AddsBrokenOff, AddsVerified, AddsVerifiedRead, AddsClosed, AddsOpened, AddsOpenedRead, AddsUnrepeated, IsOpenFile}
+use Rattle.command_core.specs.Work.{IsFaultOf, IsOfOpening, IsOpenable, reading_failed}
+use Rattle.command_core.proofs.Puts.{count_is, idle_grows, lost_by}
 
 -- ---- what was added
 
@@ -93,7 +92,7 @@ count_back kind failed said first back second last before after grew back_is las
 
 -- ---- what was read
 
-known_at : (P : List ℕ → Type 0) (left : Option (List ℕ)) (bytes : List ℕ) → left ≡ Some bytes → IfSome left P → P bytes
+pub known_at : (P : List ℕ → Type 0) (left : Option (List ℕ)) (bytes : List ℕ) → left ≡ Some bytes → IfSome left P → P bytes
 known_at P left bytes is p = subst (λ o. IfSome o P) is p
 
 -- the entry of a reading came last
@@ -168,27 +167,13 @@ was_again name key header most label left next start before (Some r) headed (las
 refused_entry : (key : List ℕ) (most : ℕ) (label : Option (List ℕ)) (output name : List ℕ) (f : FileFault) (input : List ℕ)
     (new : List Entry) → IsFaultOf key most label input f → new ≡ Happened (Read name input) ∷ []
     → AddsOpenedRead key most label output name (Failed f) new
-refused_entry key most label output name CannotOpen input new why is = absurd why
-refused_entry key most label output name NoSuffix input new why is = absurd why
 refused_entry key most label output name OutputExists input new why is = absurd why
 refused_entry key most label output name CannotCreate input new why is = absurd why
-refused_entry key most label output name OutOfMemory input new why is = absurd why
-refused_entry key most label output name NoNumber input new why is = absurd why
-refused_entry key most label output name AnotherLabel input new why is = (input, why, is)
 refused_entry key most label output name Changed input new why is = absurd why
-refused_entry key most label output name SpoolFailed input new why is = absurd why
-refused_entry key most label output name (Unsealed f) input new why is = absurd why
-refused_entry key most label output name (Unopened bytes.TooLong) input new why is = (input, why, is)
-refused_entry key most label output name (Unopened bytes.ShortHeader) input new why is = (input, why, is)
-refused_entry key most label output name (Unopened bytes.BadMagic) input new why is = (input, why, is)
-refused_entry key most label output name (Unopened bytes.BadVersion) input new why is = (input, why, is)
-refused_entry key most label output name (Unopened bytes.BadExponent) input new why is = (input, why, is)
-refused_entry key most label output name (Unopened bytes.KeyMismatch) input new why is = (input, why, is)
-refused_entry key most label output name (Unopened bytes.BadLength) input new why is = (input, why, is)
-refused_entry key most label output name (Unopened (bytes.Forged chunk)) input new why is = (input, why, is)
 refused_entry key most label output name (Unopened bytes.OutOfMemory) input new why is = inl (input, why, is)
 refused_entry key most label output name (Unopened bytes.Read) input new why is = inl (input, is)
 refused_entry key most label output name (Unopened bytes.Write) input new why is = absurd why
+refused_entry key most label output name _ input new why is = (input, why, is)
 
 pub refused_read : (key : List ℕ) (most : ℕ) (label : Option (List ℕ)) (output name : List ℕ) (left : Option (List ℕ))
     (f : FileFault) (before after : Option RunRecord) → IfSome left (λ input. IsFaultOf key most label input f)
@@ -198,16 +183,24 @@ refused_read key most label output name left f before after why tells =
     refused_entry key most label output name f bytes new (known_at (λ input. IsFaultOf key most label input f) left bytes here why) is)
     before after (told_grows (Read name) left before after tells)
 
+-- what comes where it can't be read again
+pub unrepeated : (key header : List ℕ) (most : ℕ) (label : Option (List ℕ)) (name : List ℕ) (left : Option (List ℕ))
+    (kind : List Entry → Type 0) (before one two : Option RunRecord)
+    → ((new : List Entry) → AddsUnrepeated key most label name new → kind new) → IfSome left (IsHeaded key most label header)
+    → Becomes (with_entry (Happened (Unrepeated name))) one two → TellsBytes (Read name) left before one → Grows kind before two
+unrepeated key header most label name left kind before one two makes headed fails tells =
+    grows_on (Reads (Read name) left) (λ new. new ≡ Happened (Unrepeated name) ∷ []) kind (λ a b (first, here, is) un.
+    let (has, plain, good) = known_at (IsHeaded key most label header) left first here headed in
+    makes (a ++ b) (first, plain, good, (λ i. is i ++ un i))) before one two (told_grows (Read name) left before one tells)
+    (grows_by (λ new. new ≡ Happened (Unrepeated name) ∷ []) (Happened (Unrepeated name)) refl one two fails)
+
 pub not_repeated : (key header : List ℕ) (most : ℕ) (label : Option (List ℕ)) (output name : List ℕ) (left : Option (List ℕ))
     (before one two : Option RunRecord) → IfSome left (IsHeaded key most label header)
     → Becomes (with_entry (Happened (Unrepeated name))) one two → TellsBytes (Read name) left before one
     → Grows (AddsOpenedRead key most label output name (Failed (Unopened bytes.Read))) before two
-not_repeated key header most label output name left before one two headed fails tells =
-    grows_on (Reads (Read name) left) (λ new. new ≡ Happened (Unrepeated name) ∷ [])
-    (AddsOpenedRead key most label output name (Failed (Unopened bytes.Read))) (λ a b (first, here, is) un.
-    let (has, plain, good) = known_at (IsHeaded key most label header) left first here headed in
-    inr (inl (first, plain, good, (λ i. is i ++ un i)))) before one two (told_grows (Read name) left before one tells)
-    (grows_by (λ new. new ≡ Happened (Unrepeated name) ∷ []) (Happened (Unrepeated name)) refl one two fails)
+not_repeated key header most label output name left before one two =
+    unrepeated key header most label name left (AddsOpenedRead key most label output name (Failed (Unopened bytes.Read))) before one two
+    (λ new lost. inr (inl lost))
 
 -- ---- by one reading
 
@@ -291,24 +284,19 @@ restored_twice key header most n label output name left next before one two thre
     )) before one three (told_grows (Read name) left before one tells)
     (repeats name output key header most next (Ok n) one two three again put)
 
-lost_by : (fault : OpenFault) → broken_by_write (Err (stop.Broken fault)) ≡ write_failed (Failed (Unopened fault))
-lost_by bytes.Write = refl
-lost_by _ = refl
-
 broken_off : (key : List ℕ) (most : ℕ) (label : Option (List ℕ)) (output name : List ℕ) (fault : OpenFault) (new : List Entry)
     → ¬ IsOfBytes fault → AddsBrokenOff (λ _ _. ⊤) key most label output name (Unopened fault) new
     → AddsOpenedRead key most label output name (Failed (Unopened fault)) new
-broken_off key most label output name bytes.TooLong new other up = absurd (other tt)
-broken_off key most label output name bytes.ShortHeader new other up = absurd (other tt)
-broken_off key most label output name bytes.BadMagic new other up = absurd (other tt)
-broken_off key most label output name bytes.BadVersion new other up = absurd (other tt)
-broken_off key most label output name bytes.BadExponent new other up = absurd (other tt)
-broken_off key most label output name bytes.KeyMismatch new other up = absurd (other tt)
-broken_off key most label output name bytes.BadLength new other up = absurd (other tt)
-broken_off key most label output name (bytes.Forged chunk) new other up = absurd (other tt)
 broken_off key most label output name bytes.OutOfMemory new other up = inr up
 broken_off key most label output name bytes.Read new other up = inr (inr up)
 broken_off key most label output name bytes.Write new other up = inr up
+broken_off key most label output name _ new other up = absurd (other tt)
+
+-- readings of which the first opens and the second doesn't, or has another header, differ
+pub differ : (key header : List ℕ) (most : ℕ) (label : Option (List ℕ)) (first last : List ℕ) → IsHeaded key most label header first
+    → ((plain : List ℕ) → HasHeader header last → opening key most last ≡ Ok plain → ⊥) → first ≢ last
+differ key header most label first last (has, plain, good) why same =
+    why plain (subst (HasHeader header) same has) (subst (λ (i : List ℕ). opening key most i ≡ Ok plain) same good.0)
 
 -- what came behind the first reading
 abbrev pub IsBehind : List ℕ → List ℕ → List Entry → List Entry → Type 0
@@ -344,7 +332,7 @@ stopped_entry key header most label output name first last (Unfilled stop.Change
       first,
       last,
       written,
-      (λ same. why plain (subst (HasHeader header) same has) (subst (λ (i : List ℕ). opening key most i ≡ Ok plain) same good.0)),
+      differ key header most label first last (has, plain, good) why,
       has,
       (plain, good),
       begun,
@@ -352,7 +340,7 @@ stopped_entry key header most label output name first last (Unfilled stop.Change
     )
 stopped_entry key header most label output name first last (Unfilled (stop.Broken f)) a more b (has, plain, good) is (written, begun, why, put) also =
     let behind = also ∙ ap (λ l. Happened (Repeated name last) ∷ l) put
-    ∙ ap (λ w. Happened (Repeated name last) ∷ closed_output output (Checked key header last) written (once_if w) GivenUp ∷ []) (lost_by f) in
+    ∙ ap (λ w. Happened (Repeated name last) ∷ closed_output output (Checked key header last) written (once_if w) GivenUp ∷ []) (lost_by key header most (Some last) (stop.Broken f) why) in
     broken_off key most label output name f (a ++ b) why
     (header, first, last, written, tt, has, (plain, good), begun, (λ i. is i ++ behind i))
 
@@ -387,7 +375,7 @@ fault_fits to name f fault is named = subst (λ x. IsOfOpening to name (Failed x
 
 -- ---- the file is closed
 
-closes : (name : List ℕ) (failed : Bool) (failures : Option ℕ) (before after : Option RunRecord)
+pub closes : (name : List ℕ) (failed : Bool) (failures : Option ℕ) (before after : Option RunRecord)
     → IfSome before (λ _. failures ≡ counted failed (Some 0)) → Tells (Closed name) failures before after
     → Grows (λ new. new ≡ Happened (Closed name (once_if failed)) ∷ []) before after
 closes name failed failures before None count tells = tt
@@ -397,7 +385,7 @@ closes name failed failures before (Some r) count (n, many, (was, known, is)) =
     grows_by (λ new. new ≡ Happened (Closed name (once_if failed)) ∷ []) (Happened (Closed name n))
     (ap (λ m. Happened (Closed name m) ∷ []) one) before (Some r) (was, known, is)
 
-nothing_closed : (name : List ℕ) (failures : Option ℕ) (after : RunRecord) → Tells (Closed name) failures None (Some after) → ⊥
+pub nothing_closed : (name : List ℕ) (failures : Option ℕ) (after : RunRecord) → Tells (Closed name) failures None (Some after) → ⊥
 nothing_closed name failures after (n, many, (was, known, is)) = cc
 
 closed_file : (adds : FileOutcome → List Entry → Type 0) (name : List ℕ) (left : Option (List ℕ)) (outcome : FileOutcome)

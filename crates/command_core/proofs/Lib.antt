@@ -1,9 +1,8 @@
 pub mod KeyFiles
 pub mod Labels
-pub mod Openings
 pub mod Telling
-pub mod Traces
-pub mod Unpipings
 pub mod Puts
 pub mod Files
+pub mod Giving
+pub mod Unpipings
 pub mod Turns

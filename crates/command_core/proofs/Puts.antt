@@ -1,6 +1,6 @@
 -- One output that is created, filled and closed: what it may hold before each call, and what is known at the end.
 use Rattle.std.proofs.Common.{◌≡◌, inl, inr, ℕ, suc, Bool, true, false, List, [], ◌∷◌, ◌++◌, length, Option, None, Some, refl, sym, ap, ap₂, ◌∙◌, subst, append-nil}
-use Rattle.std.specs.Prelude.{⊤, ◌⊎◌, IfSome, Ok, Err, slice_get, option_map, if◌then◌else◌}
+use Rattle.std.specs.Prelude.{⊤, ◌⊎◌, IfSome, Result, Ok, Err, slice_get, option_map, if◌then◌else◌}
 use Rattle.container_core.specs.Opening.{opening}
 use Rattle.io_core.specs.Streams.{Appends, AppendsFront, IsFront, Keeps, counted}
 use Rattle.container_core.specs.declared.fault.OpenFault.{OpenFault}
@@ -8,7 +8,7 @@ use Rattle.container_core.specs.declared.fault.OpenFault.TheVariants as bytes
 use Rattle.container_core.specs.Faults.{IsOfBytes}
 use Rattle.opening_core.specs.declared.twice.Stopped.{Stopped}
 use Rattle.opening_core.specs.declared.twice.Stopped.TheVariants.{Broken, Changed, Refused}
-use Rattle.opening_core.specs.Engine.{BeginsPlaintext, HasHeader}
+use Rattle.opening_core.specs.Engine.{HasHeader}
 use Rattle.opening_core.specs.Twice.{MayWrite, WritesAll, WritesSome, broken_by_read, broken_by_write}
 use Rattle.opening_core.specs.Windows.{HasSent}
 use Rattle.output_core.specs.Bounds.{Admits, Allows}
@@ -19,11 +19,13 @@ use Rattle.folder_core.proofs.Entries.{change_get, get_end, get_more}
 use Rattle.folder_core.proofs.Growth.{puts_out}
 use Rattle.folder_core.specs.declared.fault.FolderFault.{FolderFault}
 use Rattle.folder_core.specs.declared.fault.FolderFault.TheVariants as folder_fault
+use Rattle.command_core.specs.declared.line.FileFault.{FileFault}
+use Rattle.command_core.specs.declared.line.FileFault.TheVariants.{SpoolFailed, Unopened}
 use Rattle.command_core.specs.declared.line.FileOutcome.TheVariants.{Failed}
 use Rattle.command_core.specs.declared.putting.FillFault.TheVariants.{Uncreated, Unfilled}
 use Rattle.command_core.specs.Again.{IsAgainFault, IsBegun}
-use Rattle.command_core.specs.Putting.{IsAgainIn, closed_output, fault_of_fill, once_if}
-use Rattle.command_core.specs.Work.{reading_failed}
+use Rattle.command_core.specs.Putting.{IsAgainIn, closed_output, fault_of_fill, fault_of_stop, once_if}
+use Rattle.command_core.specs.Work.{IsOfOpening, IsOfVerifying, file_read_failed, reading_failed, write_failed}
 
 -- ---- before it is taken in hand
 
@@ -201,7 +203,7 @@ abbrev pub HasWritten : List ℕ → ℕ → List ℕ → Option (List ℕ) → 
 HasWritten key most header left start taken n = (input : List ℕ) × HasHeader header input × WritesAll key most start taken input n
     × IfSome left (λ bytes. bytes ≡ input)
 
-given : (key : List ℕ) (most : ℕ) (header : List ℕ) (left start taken : Option (List ℕ)) (last : List ℕ) (n : ℕ) → left ≡ Some last
+pub given : (key : List ℕ) (most : ℕ) (header : List ℕ) (left start taken : Option (List ℕ)) (last : List ℕ) (n : ℕ) → left ≡ Some last
     → HasWritten key most header left start taken n → HasHeader header last × WritesAll key most start taken last n
 given key most header left start taken last n here (input, headed, wrote, is) =
     let same : last ≡ input = subst (λ o. IfSome o (λ bytes. bytes ≡ input)) here is in
@@ -222,17 +224,22 @@ again_whole name key most header left start taken last count zero failures here 
           (count_is false zero failures n nil many counts),
     )
 
--- a part of it, of what was written to an output that was empty
-part_at : (key : List ℕ) (most : ℕ) (header last : List ℕ) (start taken : Option (List ℕ)) (bytes : List ℕ) → start ≡ Some [] → taken ≡ Some bytes
-    → WritesSome key most start taken last
-    → Keeps start taken ⊎ (HasSent key header header (Some last) start taken ⊎ (HasHeader header last × BeginsPlaintext key most last start taken))
-    → IsBegun key most header last (Some []) (Some bytes)
-part_at key most header last start taken bytes empty some wrote how =
-    subst (λ o. WritesSome key most (Some []) o last
-    × (Keeps (Some []) o ⊎ (HasSent key header header (Some last) (Some []) o ⊎ (HasHeader header last × BeginsPlaintext key most last (Some []) o)))) some
-    (subst (λ o. WritesSome key most o taken last
-    × (Keeps o taken ⊎ (HasSent key header header (Some last) o taken ⊎ (HasHeader header last × BeginsPlaintext key most last o taken)))) empty
-    (wrote, how))
+-- a part of it, whatever it was
+pub begun_at : (key : List ℕ) (most : ℕ) (header last : List ℕ) (left taken taken' : Option (List ℕ)) → left ≡ Some last
+    → IfSome left (WritesSome key most taken taken') → Keeps taken taken' ⊎ HasSent key header header left taken taken'
+    → IsBegun key most header last taken taken'
+begun_at key most header last left taken taken' here wrote (inl keeps) =
+    (subst (λ o. IfSome o (WritesSome key most taken taken')) here wrote, inl keeps)
+begun_at key most header last left taken taken' here wrote (inr sent) = (
+  subst (λ o. IfSome o (WritesSome key most taken taken')) here wrote,
+  inr (inl (subst (λ o. HasSent key header header o taken taken') here sent)),
+)
+
+-- of an output that was empty
+begun_empty : (key : List ℕ) (most : ℕ) (header last : List ℕ) (start taken : Option (List ℕ)) (bytes : List ℕ) → start ≡ Some []
+    → taken ≡ Some bytes → IsBegun key most header last start taken → IsBegun key most header last (Some []) (Some bytes)
+begun_empty key most header last start taken bytes empty some begun =
+    subst (λ o. IsBegun key most header last (Some []) o) some (subst (λ o. IsBegun key most header last o taken) empty begun)
 
 -- all of it, though the output's end was refused
 pub again_unfinished : (name key : List ℕ) (most : ℕ) (header : List ℕ) (left start taken : Option (List ℕ)) (last : List ℕ) (count : ℕ)
@@ -245,43 +252,36 @@ again_unfinished name key most header left start taken last count stopped zero f
     let (headed, (plain, opens, grew, long)) = given key most header left start taken last count here wrote in
     let front : AppendsFront start taken plain = all_front start taken plain grew in (
       bytes,
-      part_at key most header last start taken bytes empty some
-          (λ other is. let same : plain ≡ other = cc in subst (AppendsFront start taken) same front) (inr (inr (headed, (plain, opens, front)))),
+      begun_empty key most header last start taken bytes empty some
+          ((λ other is. let same : plain ≡ other = cc in subst (AppendsFront start taken) same front), inr (inr (headed, (plain, opens, front)))),
       stop,
       ap (λ m. closed_output name (Checked key header last) bytes m GivenUp ∷ [])
           (count_is true zero failures n nil many counts ∙ sym (ap (λ b. if b then 1 else 0) failed)),
     )
 
 -- why it stopped
-pub stop_of : (key : List ℕ) (most : ℕ) (header last : List ℕ) (left : Option (List ℕ)) (stopped : Stopped) → left ≡ Some last
+pub stop_of : (key : List ℕ) (most : ℕ) (header : List ℕ) (left : Option (List ℕ)) (stopped : Stopped)
     → (stopped ≡ Changed → IfSome left (λ input. (plain : List ℕ) → HasHeader header input → opening key most input ≡ Ok plain → ⊥))
     → ((fault : OpenFault) → stopped ≡ Refused fault → ⊥) → ((fault : OpenFault) → stopped ≡ Broken fault → IsOfBytes fault → ⊥)
-    → IsAgainFault key header most (Some last) stopped
-stop_of key most header last left (Refused fault) here changed before broken = before fault refl
-stop_of key most header last left Changed here changed before broken =
-    subst (λ o. IfSome o (λ input. (plain : List ℕ) → HasHeader header input → opening key most input ≡ Ok plain → ⊥)) here (changed refl)
-stop_of key most header last left (Broken fault) here changed before broken = broken fault refl
+    → IsAgainFault key header most left stopped
+stop_of key most header left (Refused fault) changed before broken = before fault refl
+stop_of key most header left Changed changed before broken = changed refl
+stop_of key most header left (Broken fault) changed before broken = broken fault refl
 
 -- what was written until it stopped
 pub again_part : (name key : List ℕ) (most : ℕ) (header : List ℕ) (left start taken : Option (List ℕ)) (last : List ℕ) (stopped : Stopped)
     (zero failures : Option ℕ) → left ≡ Some last → IfSome left (WritesSome key most start taken)
-    → Keeps start taken ⊎ HasSent key header header left start taken → IsAgainFault key header most (Some last) stopped
+    → Keeps start taken ⊎ HasSent key header header left start taken → IsAgainFault key header most left stopped
     → failures ≡ counted (broken_by_write (Err stopped)) zero
     → (bytes : List ℕ) (n : ℕ) → start ≡ Some [] → zero ≡ Some 0 → taken ≡ Some bytes → failures ≡ Some n
     → (written : List ℕ) × IsBegun key most header last (Some []) (Some written) × IsAgainFault key header most (Some last) stopped
     × (closed_output name (Checked key header last) bytes n GivenUp ∷ [] ≡ closed_output name (Checked key header last) written (once_if (broken_by_write (Err stopped))) GivenUp ∷ [])
 again_part name key most header left start taken last stopped zero failures here wrote how stop counts bytes n empty nil some many = (
   bytes,
-  part_at key most header last start taken bytes empty some (subst (λ o. IfSome o (WritesSome key most start taken)) here wrote)
-      (either (subst (λ o. Keeps start taken ⊎ HasSent key header header o start taken) here how)),
-  stop,
+  begun_empty key most header last start taken bytes empty some (begun_at key most header last left start taken here wrote how),
+  subst (λ o. IsAgainFault key header most o stopped) here stop,
   ap (λ m. closed_output name (Checked key header last) bytes m GivenUp ∷ []) (count_is (broken_by_write (Err stopped)) zero failures n nil many counts),
 )
-  where
-    either : {C : Type 0} → Keeps start taken ⊎ HasSent key header header (Some last) start taken
-        → Keeps start taken ⊎ (HasSent key header header (Some last) start taken ⊎ C)
-    either (inl keeps) = inl keeps
-    either (inr sent) = inr (inl sent)
 
 -- ---- idle
 
@@ -308,3 +308,29 @@ again_read (Broken fault) second = by fault
     by : (fault : OpenFault) → broken_by_read (Err (Broken fault)) ≡ reading_failed (Failed (fault_of_fill (Unfilled (Broken fault))))
     by bytes.Read = refl
     by _ = refl
+
+-- and that a write failed where one did
+pub lost_by : (key header : List ℕ) (most : ℕ) (left : Option (List ℕ)) (stopped : Stopped) → IsAgainFault key header most left stopped
+    → broken_by_write (Err stopped) ≡ write_failed (Failed (fault_of_stop stopped))
+lost_by key header most left (Refused fault) why = absurd why
+lost_by key header most left (Broken bytes.Write) why = refl
+lost_by key header most left _ why = refl
+
+-- a reading has no fault of a spool
+pub read_by_verifying : {A : Type 0} (result : Result A FileFault) (f : FileFault) → result ≡ Err f → IsOfVerifying true (Failed f)
+    → file_read_failed result ≡ reading_failed (Failed f)
+read_by_verifying {A} result f is of = ap (λ r. file_read_failed r) is ∙ by f of
+  where
+    by : (f : FileFault) → IsOfVerifying true (Failed f) → file_read_failed {A = A} (Err f) ≡ reading_failed (Failed f)
+    by SpoolFailed of = absurd of
+    by (Unopened bytes.Read) of = refl
+    by _ of = refl
+
+pub read_by_opening : {A : Type 0} (to : Option (List ℕ)) (name : List ℕ) (result : Result A FileFault) (f : FileFault) → result ≡ Err f
+    → IsOfOpening to name (Failed f) → file_read_failed result ≡ reading_failed (Failed f)
+read_by_opening {A} to name result f is of = ap (λ r. file_read_failed r) is ∙ by f of
+  where
+    by : (f : FileFault) → IsOfOpening to name (Failed f) → file_read_failed {A = A} (Err f) ≡ reading_failed (Failed f)
+    by SpoolFailed of = absurd of
+    by (Unopened bytes.Read) of = refl
+    by _ of = refl

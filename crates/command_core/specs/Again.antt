@@ -1,5 +1,5 @@
 -- What the contracts of an opening by two readings cite.
-use Rattle.std.specs.Prelude.{◌≡◌, ◌⊎◌, ℕ, false, List, ◌∷◌, [], Option, Some, IfSome, Ok}
+use Rattle.std.specs.Prelude.{◌≡◌, ◌⊎◌, ℕ, List, Option, Some, IfSome, Ok}
 use Rattle.container_core.specs.Faults.{IsOfBytes}
 use Rattle.container_core.specs.Opening.{opening}
 use Rattle.io_core.specs.Streams.{Keeps}
@@ -9,7 +9,6 @@ use Rattle.opening_core.specs.Engine.{BeginsPlaintext, HasHeader}
 use Rattle.opening_core.specs.Twice.{WritesSome}
 use Rattle.opening_core.specs.Windows.{HasSent}
 use Rattle.command_core.specs.Labels.{IsLabelled}
-use Rattle.command_core.specs.Trace.{Event, Reading, Rewound}
 
 -- Why a second reading stopped, of what had this header: it gave other bytes, or memory or a call failed.
 abbrev pub IsAgainFault : List ℕ → List ℕ → ℕ → Option (List ℕ) → Stopped → Type 0
@@ -29,10 +28,3 @@ IsBegun key most header last taken taken' = WritesSome key most taken taken' las
 -- the input opens to this plaintext, and has the label
 abbrev pub IsGood : List ℕ → ℕ → Option (List ℕ) → List ℕ → List ℕ → Type 0
 IsGood key most label input plain = (opening key most input ≡ Ok plain) × IsLabelled label input
-
--- A file of this name was read, and it is good, with this header. Then it was set back and read again, and gave these
--- bytes.
-abbrev pub IsReadTwice : List ℕ → ℕ → Option (List ℕ) → List ℕ → List ℕ → List ℕ → List ℕ → List Event → Type 0
-IsReadTwice key most label name header first last events = HasHeader header first
-    × ((plain : List ℕ) × IsGood key most label first plain)
-    × (events ≡ Reading name first ∷ Rewound name false ∷ Reading name last ∷ [])

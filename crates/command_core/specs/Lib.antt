@@ -5,8 +5,6 @@ pub mod KeyFile
 pub mod Labels
 pub mod Lines
 pub mod Printing
-pub mod Session
-pub mod Trace
 pub mod Unpiping
 pub mod Work
 pub mod Turns

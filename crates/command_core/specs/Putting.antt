@@ -1,5 +1,5 @@
 -- What is added to the record of a run where one output is created, filled with a plaintext, and closed.
-use Rattle.std.specs.Prelude.{◌≡◌, ℕ, Bool, false, List, [], ◌∷◌, length, Option, None, Some, IfSome, Result, Ok, Err, if◌then◌else◌}
+use Rattle.std.specs.Prelude.{◌≡◌, ℕ, Bool, false, List, [], ◌∷◌, length, Option, Some, Result, Ok, Err, if◌then◌else◌}
 use Rattle.container_core.specs.Opening.{opening}
 use Rattle.container_core.specs.declared.fault.OpenFault.TheVariants.{Write}
 use Rattle.io_core.specs.Streams.{IsFront}

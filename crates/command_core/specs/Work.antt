@@ -1,5 +1,5 @@
 -- What `open_all` and `verify_all` do with a list of files.
-use Rattle.std.specs.Prelude.{◌≡◌, ◌≢◌, ◌⊎◌, ℕ, ◌-◌, ◌<◌, ◌≤◌, Bool, true, false, List, [], ◌∷◌, ◌++◌, length}
+use Rattle.std.specs.Prelude.{◌≡◌, ◌≢◌, ◌⊎◌, ℕ, ◌-◌, ◌<◌, ◌≤◌, Bool, true, false, List, [], ◌++◌, length}
 use Rattle.std.specs.Prelude.{take, ◌/◌, ◌^◌, min, max}
 use Rattle.std.specs.Prelude.{⊤, Option, None, Some, option_map, codes, Result, Ok, Err}
 use Rattle.container_core.specs.declared.fault.OpenFault.TheVariants.{Read, Write}
@@ -16,10 +16,7 @@ use Rattle.command_core.specs.declared.line.FileFault.TheVariants.{AnotherLabel,
 use Rattle.command_core.specs.declared.line.FileFault.TheVariants.{SpoolFailed}
 use Rattle.command_core.specs.declared.line.FileOutcome.{FileOutcome}
 use Rattle.command_core.specs.declared.line.FileOutcome.TheVariants.{Opened, Good, Shown, Failed}
-use Rattle.command_core.specs.Again.{IsGood}
 use Rattle.command_core.specs.Labels.{IsLabelled}
-use Rattle.command_core.specs.Trace.{Event, Does}
-use Rattle.command_core.specs.Trace as trace
 use Rattle.command_core.specs.Lines.{FileLine, lines_text, status_of_lines}
 
 -- the name without its last four bytes, which are `.stm`
@@ -105,17 +102,6 @@ reading_failed _ = false
 abbrev pub write_failed : FileOutcome → Bool
 write_failed (Failed (Unopened Write)) = true
 write_failed _ = false
-
--- This happened for a file, and at last it was closed: after a call of its reader had failed exactly where the outcome
--- says that.
-abbrev pub IsClosedBy : (FileOutcome → List Event → Type 0) → List ℕ → FileOutcome → List Event → Type 0
-IsClosedBy does name outcome events = (worked : List Event) × does outcome worked
-    × (events ≡ worked ++ trace.Closed name (reading_failed outcome) ∷ [])
-
--- The events for a file that is good, and could not be set back to be read again.
-abbrev pub IsUnrepeated : List ℕ → ℕ → Option (List ℕ) → List ℕ → List Event → Type 0
-IsUnrepeated key most label name events = (first : List ℕ) × (plain : List ℕ) × IsGood key most label first plain
-    × (events ≡ trace.Reading name first ∷ trace.Rewound name true ∷ [])
 
 -- What a writer of lines got: a prefix of them. With a status other than 2 it got all of them, and the status is
 -- theirs; with 2 not all. At most one write failed, and then the status is 2: after a failed write no other is tried.

@@ -1,4 +1,4 @@
-//! What is the same for all files of `open_all` and of `verify_all`.
+//! What is the same for all files of a command that opens or verifies.
 ghost use Rattle.std.specs.Prelude.{◌<◌, ◌^◌, length};
 ghost use Rattle.command_core.specs.Work.{AreInRange};
 

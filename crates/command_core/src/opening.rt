@@ -3,7 +3,7 @@
 //! The first file that is worth several workers starts them, once, and they last
 //! to the end of the command; where there is no room for that, this thread goes on alone. Until then a file whose length
 //! isn't known, of which nothing may come for long, starts its own for each reading.
-ghost use Rattle.std.specs.Prelude.{◌≡◌, ℕ, ◌+◌, ◌<◌, ◌≤◌, List, [], ◌∷◌, length, map, take, Option, Some, Err};
+ghost use Rattle.std.specs.Prelude.{◌≡◌, ℕ, ◌+◌, ◌<◌, ◌≤◌, List, length, map, take, Option, Some, Err};
 ghost use Rattle.std.specs.Prelude.{IfErr, IfOk, IfSome, MatchOption, OnOk, option_map};
 ghost use Rattle.io_core.specs.Streams.{counted};
 ghost use Rattle.opening_core.specs.Workers.{AreWorkers};

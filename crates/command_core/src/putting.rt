@@ -176,8 +176,8 @@ fn again_named<'f, 'b, 'a, N: Rest, T: Threads + Clock + Sync, F: OpeningFolder>
     (done, lent_of(output))
 }
 
-// Writes the plaintext of a container with this header, which is read once more, to the output in hand.
-fn fill_again<'b, 'a, T: Threads + Clock + Sync, F: OpeningFolder>(
+/// Writes the plaintext of a container with this header, which is read once more, to the output in hand.
+pub(crate) fn fill_again<'b, 'a, T: Threads + Clock + Sync, F: OpeningFolder>(
     rt: &T,
     context: &FilesContext<'_, 'a>,
     folder: &mut F,

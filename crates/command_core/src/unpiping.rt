@@ -1,23 +1,24 @@
-//! Opening one file or stream to a stream: `unpipe`.
-ghost use Rattle.std.specs.Prelude.{◌≡◌, ℕ, ◌<◌, ◌≤◌, List, [], ◌∷◌, length, Option, Some, IfSome, option_map};
-ghost use Rattle.command_core.specs.Session.{IsBoundChecked, IsShut};
+//! Opening one file to a stream: `unpipe`.
+ghost use Rattle.std.specs.Prelude.{◌≡◌, ◌<◌, ◌≤◌, [], ◌∷◌, length, Option, Some, IfSome, option_map};
 ghost use Rattle.io_core.specs.Streams.{counted};
 ghost use Rattle.opening_core.specs.Workers.{AreWorkers};
-ghost use Rattle.command_core.specs.Trace.{Does, Event, IsCounted, IsReadAgain, Opens};
-ghost use Rattle.command_core.specs.Unpiping.{HasUnpiped, HasUnpipedRead};
-ghost use Rattle.command_core.specs.Work.{AreTold, reading_failed};
+ghost use Rattle.folder_core.specs.Record.{Read, RunRecord};
+ghost use Rattle.folder_core.specs.Changes.{HasStreamAlone, IsFresh, IsNewStream, TellsBytes};
+ghost use Rattle.command_core.specs.Files.{IsOpenFile};
+ghost use Rattle.command_core.specs.Unpiping.{HasUnpiped, HasUnpipedRead, outputs_view};
+ghost use Rattle.command_core.specs.Work.{AreInRange, AreTold, asked_label, reading_failed};
 
-use crate::commands::{MAX_OPENED_BYTES, fault_again, tell};
-use crate::folder::Folder;
+use crate::commands::{MAX_OPENED_BYTES, OpenOptions, fault_again, tell};
+use crate::context::FilesContext;
 use crate::line::{FileFault, FileOutcome};
+use crate::putting::fill_again;
 use crate::reading::{check_labelled, room_to_start, workers_for, workers_from};
 use crate::report::Report;
 use claim_core::{Free, MAX_WORKERS};
-use container_core::{Header, Key};
-use io_core::Sink;
-use ledger_core::Failed;
-use opening_core::{Workers, boxes_beside, write_again};
-use output_core::Output;
+use container_core::Key;
+use folder_core::OpeningFolder;
+use io_core::Failed;
+use opening_core::{Workers, boxes_beside};
 use std::alloc::Global;
 use std::thread::Threads;
 use std::time::Clock;
@@ -34,215 +35,185 @@ pub struct UnpipeOptions<'a> {
     pub label: Option<&'a [u8]>,
 }
 
-/// What a plaintext is written to that isn't an output of a folder.
-pub trait OpeningStream: Output {
-    /// Declares that the stream is to hold, after what it took, what is opened of a second reading of a file of this
-    /// folder, as far as its chunks are checked, each at its place, under the header of a first reading that opens under
-    /// this key.
-    fn allow_checked<F: Folder>(
-        &mut self,
-        folder: &F,
-        key: &Key,
-        header: &Header,
-        name: &str,
-        reader: &F::Reader,
-    )
-        requires shut { IsShut (Self.bound self.old) (Self.taken self.old) }
-        requires read { IfSome (F.told folder.now)
-            (IsReadAgain key.now header.now name.now (F.Reader.left reader.now)) }
-        ensures taken { Self.taken self.new ≡ Self.taken self.old }
-        ensures failures { Self.failures self.new ≡ Self.failures self.old }
-        // A stream that is bounded knows what the second reading gives. It may be anything.
-        ensures bound { IfSome (Self.bound self.new)
-            (IsBoundChecked key.now header.now (F.Reader.left reader.now) (Self.taken self.old)) };
-}
-
-/// A writer may take anything.
-impl<W: Sink> OpeningStream for W {
-    fn allow_checked<F: Folder>(
-        &mut self,
-        _folder: &F,
-        _key: &Key,
-        _header: &Header,
-        _name: &str,
-        _reader: &F::Reader,
-    ) {}
-}
-
-// Checks the whole container of a file that is read, and writes its plaintext by reading it again. Returns the stream
-// too.
-fn unpipe_read<'b, 'a, T: Threads + Clock + Sync, F: Folder, W: OpeningStream + Drop>(
+// Checks the whole container of a file that is read. Only then takes the stream in hand, and writes the plaintext to it
+// by reading the file again.
+fn unpipe_read<'b, 'a, T: Threads + Clock + Sync, F: OpeningFolder>(
     rt: &T,
-    alloc: Global,
-    key: &'a Key,
+    context: &FilesContext<'_, 'a>,
     folder: &mut F,
     reader: &mut F::Reader,
     name: &str,
-    stream: W,
-    options: &UnpipeOptions,
+    output: F::Handle,
     workers: Workers<'b, 'a>,
-) -> (FileOutcome, W)
+) -> FileOutcome
     requires workers { AreWorkers workers }
-    requires max_bytes { options.now.max_bytes ≤ MAX_OPENED_BYTES }
-    requires shut { IsShut (W.bound stream) (W.taken stream) }
-    requires opened { (before : Option (List Event))
-        × Does (Opens name.now (F.Reader.left reader.old)) before (F.told folder.old) }
-    ensures run { (before : Option (List Event))
-        → Does (Opens name.now (F.Reader.left reader.old)) before (F.told folder.old)
-        → HasUnpipedRead key.now options.now.max_bytes (option_map (λ b. b.now) options.now.label) name.now
-        (W.taken stream) (W.taken result.1) (W.failures stream) (W.failures result.1) before (F.told folder.new) result.0 }
-    ensures count { IsCounted (F.told folder.new) (F.Reader.failures reader.new)
-        (counted (reading_failed result.0) (F.Reader.failures reader.old)) }
+    requires open { IsOpenFile name.now (F.Reader.left reader.old) (F.Reader.failures reader.old) (F.rest folder.old) }
+    requires new { IfSome (F.rest folder.old) (IsNewStream (F.Handle.at output)) }
+    requires fresh { IsFresh (F.rest folder.old) (F.taken folder.old) (F.failures folder.old) }
+    ensures alone { IfSome (F.rest folder.new) HasStreamAlone }
+    ensures run { (before : Option RunRecord)
+        → TellsBytes (Read name.now) (F.Reader.left reader.old) before (F.rest folder.old)
+        → HasUnpipedRead context.now.key.now context.now.options.now.max_bytes (asked_label context.now.options.now)
+        name.now (F.Handle.at output) (outputs_view before (F.taken folder.old) (F.failures folder.old))
+        (outputs_view (F.rest folder.new) (F.taken folder.new) (F.failures folder.new)) result }
+    ensures read { IfSome (F.rest folder.new) (λ _. F.Reader.failures reader.new
+        ≡ counted (reading_failed result) (F.Reader.failures reader.old)) }
 {
+    let FilesContext {
+        alloc,
+        key,
+        options,
+    } = *context;
     let most = options.max_bytes;
     let header = match check_labelled(rt, alloc, key, reader, most, workers, options.label) {
         Ok((header, _)) => header,
-        Err(fault) => return (FileOutcome::Failed(fault), stream),
+        Err(fault) => return FileOutcome::Failed(fault),
     };
     match folder.again(name, reader) {
         Ok(()) => {}
-        Err(Failed) => return (FileOutcome::Failed(FileFault::SpoolFailed), stream),
+        Err(Failed) => return FileOutcome::Failed(FileFault::SpoolFailed),
     }
-    let mut stream = stream;
-    stream.allow_checked(folder, key, &header, name, reader);
-    match write_again(
-        rt, alloc, key, &header, reader, stream, most, workers, &Free,
-    ) {
-        (Ok(n), stream) => (FileOutcome::Opened(n), stream),
-        (Err(stopped), stream) => (FileOutcome::Failed(fault_again(stopped)), stream),
+    folder.allow_checked(output, key, &header, reader);
+    match fill_again(rt, context, folder, &header, reader, workers) {
+        Ok(n) => FileOutcome::Opened(n),
+        Err(stopped) => FileOutcome::Failed(fault_again(stopped)),
     }
 }
 
 // Unpipes what is read of a file, with workers that last for both readings; alone where there is no room to start them.
 // Where the file's length isn't known each reading starts its own, as nothing may come of it for long.
-fn unpipe_beside<T: Threads + Clock + Sync, F: Folder, W: OpeningStream + Drop>(
+fn unpipe_beside<'a, T: Threads + Clock + Sync, F: OpeningFolder>(
     rt: &T,
-    alloc: Global,
-    key: &Key,
+    context: &FilesContext<'_, 'a>,
     folder: &mut F,
     reader: &mut F::Reader,
     name: &str,
-    stream: W,
-    options: &UnpipeOptions,
-) -> (FileOutcome, W)
-    requires workers { (0 < options.now.workers) × (options.now.workers ≤ MAX_WORKERS) }
-    requires max_bytes { options.now.max_bytes ≤ MAX_OPENED_BYTES }
-    requires shut { IsShut (W.bound stream) (W.taken stream) }
-    requires opened { (before : Option (List Event))
-        × Does (Opens name.now (F.Reader.left reader.old)) before (F.told folder.old) }
-    ensures run { (before : Option (List Event))
-        → Does (Opens name.now (F.Reader.left reader.old)) before (F.told folder.old)
-        → HasUnpipedRead key.now options.now.max_bytes (option_map (λ b. b.now) options.now.label) name.now
-        (W.taken stream) (W.taken result.1) (W.failures stream) (W.failures result.1) before (F.told folder.new) result.0 }
-    ensures count { IsCounted (F.told folder.new) (F.Reader.failures reader.new)
-        (counted (reading_failed result.0) (F.Reader.failures reader.old)) }
+    output: F::Handle,
+) -> FileOutcome
+    requires open { IsOpenFile name.now (F.Reader.left reader.old) (F.Reader.failures reader.old) (F.rest folder.old) }
+    requires new { IfSome (F.rest folder.old) (IsNewStream (F.Handle.at output)) }
+    requires fresh { IsFresh (F.rest folder.old) (F.taken folder.old) (F.failures folder.old) }
+    ensures alone { IfSome (F.rest folder.new) HasStreamAlone }
+    ensures run { (before : Option RunRecord)
+        → TellsBytes (Read name.now) (F.Reader.left reader.old) before (F.rest folder.old)
+        → HasUnpipedRead context.now.key.now context.now.options.now.max_bytes (asked_label context.now.options.now)
+        name.now (F.Handle.at output) (outputs_view before (F.taken folder.old) (F.failures folder.old))
+        (outputs_view (F.rest folder.new) (F.taken folder.new) (F.failures folder.new)) result }
+    ensures read { IfSome (F.rest folder.new) (λ _. F.Reader.failures reader.new
+        ≡ counted (reading_failed result) (F.Reader.failures reader.old)) }
 {
+    let alloc = context.alloc;
     let bytes = folder.length(reader);
-    let count = workers_from(bytes, options.workers, true);
+    let count = workers_from(bytes, context.options.workers, true);
     if count == 1 {
-        let workers = Workers::ToStart(workers_for(bytes, options.workers));
-        return unpipe_read(
-            rt, alloc, key, folder, reader, name, stream, options, workers,
-        );
+        let workers = Workers::ToStart(workers_for(bytes, context.options.workers));
+        return unpipe_read(rt, context, folder, reader, name, output, workers);
     }
     let Some(reserve) = room_to_start(alloc, count) else {
         let workers = Workers::ToStart(1);
-        return unpipe_read(
-            rt, alloc, key, folder, reader, name, stream, options, workers,
-        );
+        return unpipe_read(rt, context, folder, reader, name, output, workers);
     };
     let mut reserve = Some(reserve);
     let boxes = boxes_beside(alloc, count);
     let boxes = boxes.as_slice();
-    let mut kept = Some(stream);
-    let mut chore = || -> (FileOutcome, W)
+    let mut kept = Some(output);
+    let mut chore = || -> FileOutcome
         requires workers { length boxes.now < MAX_WORKERS }
-        requires max_bytes { options.now.max_bytes ≤ MAX_OPENED_BYTES }
-        requires shut { (stream : W) × (kept ≡ Some stream) × IsShut (W.bound stream) (W.taken stream) }
-        requires opened { (before : Option (List Event))
-            × Does (Opens name.now (F.Reader.left reader.now)) before (F.told folder.now) }
-        ensures run { (stream : W) (before : Option (List Event)) → kept.entry ≡ Some stream
-            → Does (Opens name.entry.now (F.Reader.left reader.entry.now)) before (F.told folder.entry.now)
-            → HasUnpipedRead key.entry.now options.entry.now.max_bytes
-            (option_map (λ b. b.now) options.entry.now.label) name.entry.now (W.taken stream) (W.taken result.1)
-            (W.failures stream) (W.failures result.1) before (F.told folder.exit.now) result.0 }
-        ensures count { IsCounted (F.told folder.exit.now) (F.Reader.failures reader.exit.now)
-            (counted (reading_failed result.0) (F.Reader.failures reader.entry.now)) }
+        requires open { IsOpenFile name.now (F.Reader.left reader.now) (F.Reader.failures reader.now) (F.rest folder.now) }
+        requires new { (output : F.Handle) × (kept ≡ Some output)
+            × IfSome (F.rest folder.now) (IsNewStream (F.Handle.at output)) }
+        requires fresh { IsFresh (F.rest folder.now) (F.taken folder.now) (F.failures folder.now) }
+        ensures alone { IfSome (F.rest folder.exit.now) HasStreamAlone }
+        ensures run { (output : F.Handle) (before : Option RunRecord) → kept.entry ≡ Some output
+            → TellsBytes (Read name.entry.now) (F.Reader.left reader.entry.now) before (F.rest folder.entry.now)
+            → HasUnpipedRead context.entry.now.key.now context.entry.now.options.now.max_bytes
+            (asked_label context.entry.now.options.now) name.entry.now (F.Handle.at output)
+            (outputs_view before (F.taken folder.entry.now) (F.failures folder.entry.now))
+            (outputs_view (F.rest folder.exit.now) (F.taken folder.exit.now) (F.failures folder.exit.now)) result }
+        ensures read { IfSome (F.rest folder.exit.now) (λ _. F.Reader.failures reader.exit.now
+            ≡ counted (reading_failed result) (F.Reader.failures reader.entry.now)) }
     {
-        let Some(stream) = kept.take() else {
+        let Some(output) = kept.take() else {
             unreachable!();
         };
         reserve = None;
         let workers = Workers::Running(boxes);
-        unpipe_read(
-            rt, alloc, key, folder, reader, name, stream, options, workers,
-        )
+        unpipe_read(rt, context, folder, reader, name, output, workers)
     };
     with_workers(rt, alloc, boxes, &Free, &mut chore)
 }
 
-// Opens a file, and unpipes what is read of it. Returns the stream too.
-fn unpipe<T: Threads + Clock + Sync, F: Folder, W: OpeningStream + Drop>(
+// Opens a file, and unpipes what is read of it. At last the file is closed.
+fn unpipe<T: Threads + Clock + Sync, F: OpeningFolder>(
     rt: &T,
     alloc: Global,
     key: &Key,
+    options: &OpenOptions,
     folder: &mut F,
     name: &str,
-    stream: W,
-    options: &UnpipeOptions,
-) -> (FileOutcome, W)
-    requires workers { (0 < options.now.workers) × (options.now.workers ≤ MAX_WORKERS) }
-    requires max_bytes { options.now.max_bytes ≤ MAX_OPENED_BYTES }
-    requires shut { IsShut (W.bound stream) (W.taken stream) }
-    ensures { HasUnpiped key.now options.now.max_bytes (option_map (λ b. b.now) options.now.label) name.now
-        (W.taken stream) (W.taken result.1) (W.failures stream) (W.failures result.1)
-        (F.told folder.old) (F.told folder.new) result.0 }
+    output: F::Handle,
+) -> FileOutcome
+    requires range { AreInRange options.now }
+    requires new { IfSome (F.rest folder.old) (IsNewStream (F.Handle.at output)) }
+    requires fresh { IsFresh (F.rest folder.old) (F.taken folder.old) (F.failures folder.old) }
+    ensures { HasUnpiped key.now options.now.max_bytes (asked_label options.now) name.now (F.Handle.at output)
+        (outputs_view (F.rest folder.old) (F.taken folder.old) (F.failures folder.old))
+        (outputs_view (F.rest folder.new) (F.taken folder.new) (F.failures folder.new)) result }
 {
     let Ok(mut reader) = folder.open(name) else {
-        return (FileOutcome::Failed(FileFault::CannotOpen), stream);
+        return FileOutcome::Failed(FileFault::CannotOpen);
     };
-    let (outcome, stream) = unpipe_beside(
-        rt,
+    let context = FilesContext {
         alloc,
         key,
-        folder,
-        &mut reader,
-        name,
-        stream,
         options,
-    );
+    };
+    let outcome = unpipe_beside(rt, &context, folder, &mut reader, name, output);
     folder.close(name, reader);
-    (outcome, stream)
+    outcome
 }
 
-/// Opens the container in a file of a folder, to its end, and writes the plaintext to a stream. The file is read twice.
-/// The first reading checks every chunk and the label. Only then the second writes, each chunk once it was checked
-/// again. The line, `opened NAME bytes N` or `failed NAME: FAULT`, is printed to `lines`. Returns the exit status and the
-/// stream. The status is 0 if the file was opened, 1 if that failed, 2 if the line couldn't be written.
+/// Opens the container in a file of a folder, to its end, and writes the plaintext to a stream of that folder, which is
+/// new (`ToStream` makes such a folder of any folder and any writer). The file is read twice. The first reading checks
+/// every chunk and the label. Only then the second writes, each chunk once it was checked again. The line, `opened NAME
+/// bytes N` or `failed NAME: FAULT`, is printed to `lines`. Returns the exit status: 0 if the file was opened, 1 if that
+/// failed, 2 if the line couldn't be written.
 ///
 /// At a fault of the bytes nothing was written. If memory, a read or a write failed after the whole check, or if the
-/// second reading gave other bytes (`changed while it was opened`), what was written had passed the check again.
-pub fn unpipe_all<T: Threads + Clock + Sync, F: Folder, W: OpeningStream + Drop, E: Report>(
+/// second reading gave other bytes (`changed while it was opened`), what was written had passed the check again. The
+/// stream stays in hand.
+pub fn unpipe_all<'o, T: Threads + Clock + Sync, F: OpeningFolder, E: Report>(
     rt: &T,
     alloc: Global,
     key: &Key,
     folder: &mut F,
     name: &str,
-    stream: W,
-    options: &UnpipeOptions,
+    output: F::Handle,
+    options: &UnpipeOptions<'o>,
     lines: &mut E,
-) -> (u8, W)
+) -> u8
     requires workers { (0 < options.now.workers) × (options.now.workers ≤ MAX_WORKERS) }
     requires max_bytes { options.now.max_bytes ≤ MAX_OPENED_BYTES }
-    requires shut { IsShut (W.bound stream) (W.taken stream) }
-    ensures status { result.0 ≤ 2 }
+    // Where the record is known, the output is a new stream that took nothing.
+    requires new { IfSome (F.rest folder.old) (IsNewStream (F.Handle.at output)) }
+    requires fresh { IsFresh (F.rest folder.old) (F.taken folder.old) (F.failures folder.old) }
+    ensures status { result ≤ 2 }
     ensures run { (outcome : FileOutcome)
         × HasUnpiped key.now options.now.max_bytes (option_map (λ b. b.now) options.now.label) name.now
-        (W.taken stream) (W.taken result.1) (W.failures stream) (W.failures result.1)
-        (F.told folder.old) (F.told folder.new) outcome
-        × AreTold result.0 (record { name = name.now; outcome = outcome } ∷ [])
+        (F.Handle.at output) (outputs_view (F.rest folder.old) (F.taken folder.old) (F.failures folder.old))
+        (outputs_view (F.rest folder.new) (F.taken folder.new) (F.failures folder.new)) outcome
+        × AreTold result (record { name = name.now; outcome = outcome } ∷ [])
         (E.taken lines.old) (E.taken lines.new) (E.failures lines.old) (E.failures lines.new) }
 {
-    let (outcome, stream) = unpipe(rt, alloc, key, folder, name, stream, options);
-    (tell(alloc, lines, 0, name, outcome), stream)
+    // The name is passed apart.
+    let options: OpenOptions<'o> = OpenOptions {
+        files: &[],
+        workers: options.workers,
+        max_bytes: options.max_bytes,
+        label: options.label,
+        to: None,
+        show: false,
+    };
+    let outcome = unpipe(rt, alloc, key, &options, folder, name, output);
+    tell(alloc, lines, 0, name, outcome)
 }

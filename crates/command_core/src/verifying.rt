@@ -1,6 +1,6 @@
 //! Verifying: each file in turn, with its line on standard output. No file is created. Workers are started, and last,
 //! as in `opening`.
-ghost use Rattle.std.specs.Prelude.{◌≡◌, ℕ, ◌+◌, ◌<◌, ◌≤◌, List, [], ◌∷◌, length, map, take, Option, Some, IfSome, option_map};
+ghost use Rattle.std.specs.Prelude.{◌≡◌, ◌+◌, ◌<◌, ◌≤◌, length, map, take, Option, Some, option_map};
 ghost use Rattle.opening_core.specs.Workers.{AreWorkers};
 ghost use Rattle.folder_core.specs.Record.{Read, RunRecord};
 ghost use Rattle.folder_core.specs.Changes.{IsIdle, TellsBytes};

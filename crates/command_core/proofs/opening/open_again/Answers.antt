@@ -2,7 +2,7 @@ use Rattle.std.proofs.Common.{ap, false, refl, sym, ◌∙◌, true}
 use Rattle.io_core.specs.Streams.{counted}
 use Rattle.command_core.specs.declared.line.FileOutcome.TheVariants.{Failed}
 use Rattle.command_core.specs.Work.{reading_failed}
-use Rattle.command_core.proofs.Openings.{read_by_verifying}
+use Rattle.command_core.proofs.Puts.{read_by_verifying}
 use Rattle.command_core.proofs.Files.{count_back, fault_fits, headed_of, if_known, not_repeated, refused_read, restored_twice, unfilled_twice, was_again}
 use Rattle.command_core.proofs.opening.open_again.Goals as goal
 

@@ -2,7 +2,7 @@ use Rattle.std.proofs.Common.{[], Some, ap, sym, ◌∙◌}
 use Rattle.command_core.specs.declared.line.FileOutcome.TheVariants.{Failed}
 use Rattle.command_core.specs.Work.{reading_failed}
 use Rattle.io_core.specs.Streams.{counted}
-use Rattle.command_core.proofs.Openings.{read_by_opening}
+use Rattle.command_core.proofs.Puts.{read_by_opening}
 use Rattle.command_core.proofs.Files.{fault_fits, if_known, refused_read, restored_once, unfilled_once, was_read}
 use Rattle.command_core.proofs.opening.open_once.Goals as goal
 

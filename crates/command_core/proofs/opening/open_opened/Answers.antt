@@ -1,3 +1,4 @@
+use Rattle.folder_core.proofs.Streams.{alone}
 use Rattle.std.proofs.Common.{sym}
 use Rattle.command_core.proofs.Files.{closed_restored, idle_over}
 use Rattle.command_core.proofs.opening.open_opened.Goals as goal
@@ -9,5 +10,5 @@ returns-clause-adds g c = λ before tells. rw (sym c.in-Some.ensures.name)
 
 pub close-requires : goal.close-requires
 close-requires g c = record {
-  idle = idle_over _ _ _ _ _ _ c.requires.open.read.1 c.open_read-outcome.ensures.adds c.requires.open.idle;
+  idle = alone _ (idle_over _ _ _ _ _ _ c.requires.open.read.1 c.open_read-outcome.ensures.adds c.requires.open.idle);
 }

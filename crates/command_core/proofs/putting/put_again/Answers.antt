@@ -50,7 +50,7 @@ returns-in-Err-fill_again-clause-put g c =
       here,
       again_part _ _ _ _ _ _ _ last _ _ _ here c.in-Err-fill_again.ensures.written.begun
           c.in-Err-fill_again.ensures.written.checked
-          (stop_of _ _ _ last _ _ here (λ is. c.in-Err-fill_again.ensures.written.changed (ap Err is))
+          (stop_of _ _ _ _ _ (λ is. c.in-Err-fill_again.ensures.written.changed (ap Err is))
           (λ fault is. c.in-Err-fill_again.ensures.written.checked_before fault (ap Err is))
           (λ fault is. c.in-Err-fill_again.ensures.written.broken fault (ap Err is))) c.in-Err-fill_again.ensures.written.write bytes n e z t f,
     ))

@@ -1,5 +1,5 @@
 use Rattle.std.proofs.Common.{true}
-use Rattle.command_core.proofs.Openings.{read_by_verifying}
+use Rattle.command_core.proofs.Puts.{read_by_verifying}
 use Rattle.command_core.proofs.Files.{checked_good, checked_shown, unchecked}
 use Rattle.command_core.proofs.verifying.verify_opened.Goals as goal
 

@@ -3,8 +3,9 @@ use Rattle.command_core.proofs.unpiping.fn.unpipe_beside.chore.Goals as goal
 
 pub returns : goal.returns
 returns g c = record {
-  run = λ stream before is opens.
-      let same : c.in-Some.stream ≡ stream = search rules in
-      rw same at c.unpipe_read.ensures.run before opens;
-  count = c.unpipe_read.ensures.count;
+  alone = c.unpipe_read.ensures.alone;
+  run = λ output before is tells.
+      let same : c.in-Some.output ≡ output = search rules in
+      rw same at c.unpipe_read.ensures.run before tells;
+  read = c.unpipe_read.ensures.read;
 }

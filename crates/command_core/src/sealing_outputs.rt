@@ -1,15 +1,16 @@
-//! A folder into whose outputs containers are written, under one key and the numbers of one range.
+//! Outputs into which containers are written, under one key and the numbers of one range.
 ghost use Rattle.std.specs.Prelude.{◌≡◌, IfSome};
 ghost use Rattle.command_core.specs.GrantedRange.{StandsIn};
 ghost use Rattle.folder_core.specs.Changes.{Becomes, IsUnstarted, started};
 
 use container_core::Key;
-use folder_core::Folder;
+use folder_core::Outputs;
+use io_core::Sink;
 use ledger_core::Ledger;
 use reserve_core::{Fold, LedgerFile};
 
-/// A folder whose record gets a key and a range. Without them no container can be written into its outputs.
-pub trait SealingFolder: Folder {
+/// Outputs whose record gets a key and a range. Without them no container can be written into one.
+pub trait SealingOutputs: Outputs {
     /// From here on containers are sealed under this key and numbers of the ledger's range, which the ledger file has for
     /// good. The call does nothing to files: its contract makes the caller show this before anything is written. No key
     /// was given before, and nothing is in hand, where the record is known.
@@ -17,5 +18,12 @@ pub trait SealingFolder: Folder {
         requires unstarted { IfSome (Self.rest self.old) IsUnstarted }
         requires stands { StandsIn S.Store LedgerFile.Kept LedgerFile.Folded S.is_folded key.now file.now
             ledger.now.terms.range }
-        ensures started { Becomes (started key.now ledger.now.terms.range) (Self.rest self.old) (Self.rest self.new) };
+        ensures started { Becomes (started key.now ledger.now.terms.range) (Self.rest self.old) (Self.rest self.new) }
+        ensures taken { Self.taken self.new ≡ Self.taken self.old }
+        ensures failures { Self.failures self.new ≡ Self.failures self.old };
+}
+
+/// A writer has no record.
+impl<W: Sink> SealingOutputs for W {
+    fn start<S: Fold>(&mut self, _file: &LedgerFile<S>, _key: &Key, _ledger: &Ledger) {}
 }
