@@ -23,8 +23,9 @@ use Rattle.command_core.specs.declared.line.FileFault.{FileFault}
 use Rattle.command_core.specs.declared.line.FileOutcome.{FileOutcome}
 use Rattle.command_core.specs.declared.line.FileOutcome.TheVariants.{Failed}
 use Rattle.command_core.specs.Lines.{FileLine}
+use Rattle.command_core.specs.Turns.{Printed}
 use Rattle.command_core.specs.Work.{AreTold}
-use Rattle.sealer_core.specs.Group.{holds, HasEnded, IsOfSeats, AreHeld, AreOwed, AreEnded, refused_lines, name_of, IsPrepared, read_of, left_by, void_by, void_in}
+use Rattle.sealer_core.specs.Group.{holds, HasEnded, IsOfSeats, AreHeld, AreOwed, AreEnded, GroupView, group_view, refused_lines, name_of, IsPrepared, read_of, left_by, void_by, void_in}
 use Rattle.sealer_core.specs.declared.prepare.Prepared.{Prepared}
 use Rattle.sealer_core.specs.declared.prepare.Prepared.TheVariants.{Refused, Unread, Read}
 use Rattle.command_core.specs.declared.line.FileFault.TheVariants.{OutOfMemory}
@@ -234,60 +235,56 @@ none_left files (o ∷ os) none few = let no = ap (λ l. length (flat_map read_o
 -- ---- files of a group that have their lines
 
 -- The state so far with these files, of which the latter have no line yet.
-pub record AreEnding {W : Type 0} (happened : List FileLine → List ℕ → Type 0) (files left : List (Prepared W))
-    (outcomes outcomes' : List Outcome) (operations operations' : List Entry) (status status' : ℕ)
-    (old new : Option (List ℕ)) (failures failures' : Option ℕ) : Type 0 where
+pub record AreEnding {W : Type 0} (happened : List FileLine → List ℕ → Type 0) (files left : List (Prepared W)) (old new : GroupView)
+    : Type 0 where
   pub names : List (List ℕ)
   pub named : names ++ map name_of left ≡ map name_of files
-  pub ended : AreEnded happened names outcomes outcomes' operations operations' status status'
-      old new failures failures'
+  pub ended : AreEnded happened names old new
 
 -- none has one yet
-pub nothing_ended : (happened : List FileLine → List ℕ → Type 0) (outcomes : List Outcome) (operations : List Entry) (status : ℕ) (taken : Option (List ℕ)) (failures : Option ℕ) → happened [] []
-    → AreEnded happened [] outcomes outcomes operations operations status status taken taken failures failures
-nothing_ended happened outcomes operations status taken failures done = record {
+pub nothing_ended : (happened : List FileLine → List ℕ → Type 0) (v : GroupView) → happened [] [] → AreEnded happened [] v v
+nothing_ended happened v done = record {
   lines = [];
   voids = [];
   named = refl;
   fitting = All-nil (λ (l : FileLine). IsOfSealing l.outcome);
-  told = λ before first count t. subst (λ (l : List FileLine). AreTold status l first taken count failures) (sym (append-nil before)) t;
+  told = λ before first count t. subst (λ (l : List FileLine). AreTold v.status l first v.lines.taken count v.lines.failures) (sym (append-nil before)) t;
   accounts = λ before earlier a.
-      subst (λ (l : List FileLine). AreHeld l (earlier ++ []) outcomes operations) (sym (append-nil before))
-      (subst (λ (v : List ℕ). AreHeld before v outcomes operations) (sym (append-nil earlier)) a);
+      subst (λ (l : List FileLine). AreHeld l (earlier ++ []) v.outcomes v.operations) (sym (append-nil before))
+      (subst (λ (n : List ℕ). AreHeld before n v.outcomes v.operations) (sym (append-nil earlier)) a);
   done = done;
 }
 
 -- one more has its line
-pub ended_more : (happened happened' : List FileLine → List ℕ → Type 0) (names : List (List ℕ)) (line : FileLine) (void : List ℕ) (outcomes outcomes' outcomes'' : List Outcome)
-    (operations operations' operations'' : List Entry) (status status' status'' : ℕ) (old mid new : Option (List ℕ)) (failures failures' failures'' : Option ℕ)
-    → (e : AreEnded happened names outcomes outcomes' operations operations' status status' old mid failures failures')
+pub ended_more : (happened happened' : List FileLine → List ℕ → Type 0) (names : List (List ℕ)) (line : FileLine) (void : List ℕ) (old mid new : GroupView)
+    → (e : AreEnded happened names old mid)
     → IsOfSealing line.outcome
-    → ((told : List FileLine) (first : Option (List ℕ)) (count : Option ℕ) → AreTold status' told first mid count failures' → AreTold status'' (told ++ line ∷ []) first new count failures'')
-    → ((lines : List FileLine) (voids : List ℕ) → AreHeld lines voids outcomes' operations' → AreHeld (lines ++ line ∷ []) (voids ++ void) outcomes'' operations'')
+    → ((told : List FileLine) (first : Option (List ℕ)) (count : Option ℕ) → AreTold mid.status told first mid.lines.taken count mid.lines.failures
+    → AreTold new.status (told ++ line ∷ []) first new.lines.taken count new.lines.failures)
+    → ((lines : List FileLine) (voids : List ℕ) → AreHeld lines voids mid.outcomes mid.operations → AreHeld (lines ++ line ∷ []) (voids ++ void) new.outcomes new.operations)
     → happened' (e.lines ++ line ∷ []) (e.voids ++ void)
-    → AreEnded happened' (names ++ line.name ∷ []) outcomes outcomes'' operations operations'' status status'' old new failures failures''
-ended_more happened happened' names line void outcomes outcomes' outcomes'' operations operations' operations'' status status' status'' old mid new failures failures' failures'' e fit told accounts done = record {
+    → AreEnded happened' (names ++ line.name ∷ []) old new
+ended_more happened happened' names line void old mid new e fit told accounts done = record {
   lines = e.lines ++ line ∷ [];
   voids = e.voids ++ void;
   named = map-append (λ (l : FileLine). l.name) e.lines (line ∷ []) ∙ ap (λ l. l ++ line.name ∷ []) e.named;
   fitting = All-push (λ (l : FileLine). IsOfSealing l.outcome) e.lines line e.fitting fit;
-  told = λ before first count t. subst (λ (l : List FileLine). AreTold status'' l first new count failures'') (append_assoc before e.lines (line ∷ []))
+  told = λ before first count t. subst (λ (l : List FileLine). AreTold new.status l first new.lines.taken count new.lines.failures) (append_assoc before e.lines (line ∷ []))
       (told (before ++ e.lines) first count (e.told before first count t));
   accounts = λ before earlier a.
-      subst (λ (l : List FileLine). AreHeld l (earlier ++ (e.voids ++ void)) outcomes'' operations'') (append_assoc before e.lines (line ∷ []))
-      (subst (λ (v : List ℕ). AreHeld ((before ++ e.lines) ++ line ∷ []) v outcomes'' operations'') (append_assoc earlier e.voids void)
+      subst (λ (l : List FileLine). AreHeld l (earlier ++ (e.voids ++ void)) new.outcomes new.operations) (append_assoc before e.lines (line ∷ []))
+      (subst (λ (v : List ℕ). AreHeld ((before ++ e.lines) ++ line ∷ []) v new.outcomes new.operations) (append_assoc earlier e.voids void)
       (accounts (before ++ e.lines) (earlier ++ e.voids) (e.accounts before earlier a)));
   done = done;
 }
 
 -- the group was processed
-pub group_of : (happened happened' : List FileLine → List ℕ → Type 0) (names names' : List (List ℕ)) (outcomes : List Outcome) (operations operations' operations'' : List Entry)
-    (status status' : ℕ) (old new : Option (List ℕ)) (failures failures' : Option ℕ)
-    → AreEnded happened names outcomes [] operations' operations'' status status' old new failures failures'
-    → names ≡ names' → ((lines : List FileLine) (voids : List ℕ) → Accounts lines voids operations → AreHeld lines voids outcomes operations')
+pub group_of : (happened happened' : List FileLine → List ℕ → Type 0) (names names' : List (List ℕ)) (operations : List Entry) (old new : GroupView)
+    → AreEnded happened names old new
+    → names ≡ names' → ((lines : List FileLine) (voids : List ℕ) → Accounts lines voids operations → AreHeld lines voids old.outcomes old.operations)
     → ((lines : List FileLine) (voids : List ℕ) → happened lines voids → happened' lines voids)
-    → AreEnded happened' names' [] [] operations operations'' status status' old new failures failures'
-group_of happened happened' names names' outcomes operations operations' operations'' status status' old new failures failures' e same held also = record {
+    → AreEnded happened' names' (group_view [] operations old.status old.lines) new
+group_of happened happened' names names' operations old new e same held also = record {
   lines = e.lines;
   voids = e.voids;
   named = e.named ∙ same;
@@ -313,42 +310,42 @@ module _ {W : Type 0} (items items' : List (Prepared W)) (file : Prepared W) (is
   pub prepared_all : All IsPrepared items → IsPrepared file → All IsPrepared items'
   prepared_all so its = subst (All IsPrepared) (sym is) (All-push IsPrepared items file so its)
 
-pub ending_none : {W : Type 0} (happened : List FileLine → List ℕ → Type 0) (files : List (Prepared W)) (outcomes : List Outcome) (operations : List Entry) (status : ℕ) (taken : Option (List ℕ)) (failures : Option ℕ)
-    → happened [] [] → AreEnding happened files files outcomes outcomes operations operations status status taken taken failures failures
-ending_none happened files outcomes operations status taken failures done = record {
+pub ending_none : {W : Type 0} (happened : List FileLine → List ℕ → Type 0) (files : List (Prepared W)) (v : GroupView) → happened [] []
+    → AreEnding happened files files v v
+ending_none happened files v done = record {
   names = [];
   named = refl;
-  ended = nothing_ended happened outcomes operations status taken failures done;
+  ended = nothing_ended happened v done;
 }
 
 pub ending_more : {W : Type 0} (happened happened' : List FileLine → List ℕ → Type 0) (files items left : List (Prepared W)) (file : Prepared W) (name : List ℕ) (outcome : FileOutcome) (void : List ℕ)
-    (outcomes outcomes' outcomes'' : List Outcome) (operations operations' operations'' : List Entry) (status status' status'' : ℕ) (old mid new : Option (List ℕ)) (failures failures' failures'' : Option ℕ)
-    → items ≡ file ∷ left → name ≡ name_of file
-    → (e : AreEnding happened files items outcomes outcomes' operations operations' status status' old mid failures failures')
+    (old mid new : GroupView) → items ≡ file ∷ left → name ≡ name_of file
+    → (e : AreEnding happened files items old mid)
     → IsOfSealing outcome
-    → ((told : List FileLine) (first : Option (List ℕ)) (count : Option ℕ) → AreTold status' told first mid count failures'
-    → AreTold status'' (told ++ line_of name outcome ∷ []) first new count failures'')
-    → ((lines : List FileLine) (voids : List ℕ) → AreHeld lines voids outcomes' operations' → AreHeld (lines ++ line_of (name_of file) outcome ∷ []) (voids ++ void) outcomes'' operations'')
+    → ((told : List FileLine) (first : Option (List ℕ)) (count : Option ℕ) → AreTold mid.status told first mid.lines.taken count mid.lines.failures
+    → AreTold new.status (told ++ line_of name outcome ∷ []) first new.lines.taken count new.lines.failures)
+    → ((lines : List FileLine) (voids : List ℕ) → AreHeld lines voids mid.outcomes mid.operations
+    → AreHeld (lines ++ line_of (name_of file) outcome ∷ []) (voids ++ void) new.outcomes new.operations)
     → happened' (e.ended.lines ++ line_of (name_of file) outcome ∷ []) (e.ended.voids ++ void)
-    → AreEnding happened' files left outcomes outcomes'' operations operations'' status status'' old new failures failures''
-ending_more happened happened' files items left file name outcome void outcomes outcomes' outcomes'' operations operations' operations'' status status' status'' old mid new failures failures' failures'' is its e fit told accounts done = record {
+    → AreEnding happened' files left old new
+ending_more happened happened' files items left file name outcome void old mid new is its e fit told accounts done = record {
   names = e.names ++ name_of file ∷ [];
   named = append_assoc e.names (name_of file ∷ []) (map name_of left) ∙ ap (λ l. e.names ++ map name_of l) (sym is) ∙ e.named;
-  ended = ended_more happened happened' e.names (line_of (name_of file) outcome) void outcomes outcomes' outcomes'' operations operations' operations'' status status' status'' old mid new
-      failures failures' failures'' e.ended fit
-      (λ before first count t. subst (λ (n : List ℕ). AreTold status'' (before ++ line_of n outcome ∷ []) first new count failures'') its (told before first count t)) accounts done;
+  ended = ended_more happened happened' e.names (line_of (name_of file) outcome) void old mid new e.ended fit
+      (λ before first count t.
+      subst (λ (n : List ℕ). AreTold new.status (before ++ line_of n outcome ∷ []) first new.lines.taken count new.lines.failures) its (told before first count t)) accounts done;
 }
 
-pub ending_all : {W : Type 0} (happened happened' : List FileLine → List ℕ → Type 0) (files left : List (Prepared W)) (outcomes outcomes' : List Outcome) (operations operations' : List Entry) (status status' : ℕ)
-    (old new : Option (List ℕ)) (failures failures' : Option ℕ) → left ≡ [] → length outcomes' ≤ length (flat_map read_of left)
+pub ending_all : {W : Type 0} (happened happened' : List FileLine → List ℕ → Type 0) (files left : List (Prepared W)) (old new : GroupView)
+    → left ≡ [] → length new.outcomes ≤ length (flat_map read_of left)
     → ((lines : List FileLine) (voids : List ℕ) → happened lines voids → happened' lines voids)
-    → AreEnding happened files left outcomes outcomes' operations operations' status status' old new failures failures'
-    → AreEnded happened' (map name_of files) outcomes [] operations operations' status status' old new failures failures'
-ending_all happened happened' files left outcomes outcomes' operations operations' status status' old new failures failures' none few also e =
-    subst (λ (n : List (List ℕ)). AreEnded happened' n outcomes [] operations operations' status status' old new failures failures')
+    → AreEnding happened files left old new
+    → AreEnded happened' (map name_of files) old (record new { outcomes = [] })
+ending_all happened happened' files left old new none few also e =
+    subst (λ (n : List (List ℕ)). AreEnded happened' n old (record new { outcomes = [] }))
     (sym (append-nil e.names) ∙ ap (λ l. e.names ++ map name_of l) (sym none) ∙ e.named)
-    (subst (λ (os : List Outcome). AreEnded happened' e.names outcomes os operations operations' status status' old new failures failures')
-    (none_left left outcomes' none few) (record {
+    (subst (λ (os : List Outcome). AreEnded happened' e.names old (record new { outcomes = os }))
+    (none_left left new.outcomes none few) (record {
       lines = e.ended.lines;
       voids = e.ended.voids;
       named = e.ended.named;
@@ -384,11 +381,11 @@ refused_more names names' name before longer =
     append_assoc before (refused_lines names) (line_of name (Failed OutOfMemory) ∷ [])
     ∙ ap (λ l. before ++ l) (sym (map-append (λ (n : List ℕ). line_of n (Failed OutOfMemory)) names (name ∷ [])) ∙ ap refused_lines longer)
 
-pub refused_group : (happened : List FileLine → List ℕ → Type 0) (names : List (List ℕ)) (operations : List Entry) (status status' : ℕ) (old new : Option (List ℕ)) (failures failures' : Option ℕ)
-    → ((before : List FileLine) (first : Option (List ℕ)) (count : Option ℕ) → AreTold status before first old count failures
-    → AreTold status' (before ++ refused_lines names) first new count failures')
-    → happened (refused_lines names) [] → AreEnded happened names [] [] operations operations status status' old new failures failures'
-refused_group happened names operations status status' old new failures failures' told done = record {
+pub refused_group : (happened : List FileLine → List ℕ → Type 0) (names : List (List ℕ)) (operations : List Entry) (status status' : ℕ) (old new : Printed)
+    → ((before : List FileLine) (first : Option (List ℕ)) (count : Option ℕ) → AreTold status before first old.taken count old.failures
+    → AreTold status' (before ++ refused_lines names) first new.taken count new.failures)
+    → happened (refused_lines names) [] → AreEnded happened names (group_view [] operations status old) (group_view [] operations status' new)
+refused_group happened names operations status status' old new told done = record {
   lines = refused_lines names;
   voids = [];
   named = refused_named names;
@@ -406,12 +403,12 @@ single_name (name ∷ []) d some few = refl
 single_name (name ∷ other ∷ names) d some few = absurd (omega arith)
 
 pub one_group : (happened : List FileLine → List ℕ → Type 0) (name : List ℕ) (names' : List (List ℕ)) (outcome : FileOutcome) (void : List ℕ) (operations operations' : List Entry) (status status' : ℕ)
-    (old new : Option (List ℕ)) (failures failures' : Option ℕ) → names' ≡ name ∷ [] → IsOfSealing outcome
-    → ((before : List FileLine) (first : Option (List ℕ)) (count : Option ℕ) → AreTold status before first old count failures
-    → AreTold status' (before ++ line_of name outcome ∷ []) first new count failures')
+    (old new : Printed) → names' ≡ name ∷ [] → IsOfSealing outcome
+    → ((before : List FileLine) (first : Option (List ℕ)) (count : Option ℕ) → AreTold status before first old.taken count old.failures
+    → AreTold status' (before ++ line_of name outcome ∷ []) first new.taken count new.failures)
     → ((before : List FileLine) (earlier : List ℕ) → Accounts before earlier operations → Accounts (before ++ line_of name outcome ∷ []) (earlier ++ void) operations')
-    → happened (line_of name outcome ∷ []) void → AreEnded happened names' [] [] operations operations' status status' old new failures failures'
-one_group happened name names' outcome void operations operations' status status' old new failures failures' named fit told accounts done = record {
+    → happened (line_of name outcome ∷ []) void → AreEnded happened names' (group_view [] operations status old) (group_view [] operations' status' new)
+one_group happened name names' outcome void operations operations' status status' old new named fit told accounts done = record {
   lines = line_of name outcome ∷ [];
   voids = void;
   named = sym named;

@@ -1,5 +1,5 @@
 -- The lines and the ledger's operations agree file by file. The ledger is legal, so no number is in two lines.
-use Rattle.std.proofs.Common.{Result, Ok, Err, IsOk, IfOk, OnOk, OnErr, true, false, add-zero, ◌≡◌, ◌⊎◌, ℕ, zero, suc, ◌+◌, ◌<◌, ◌≤◌, Bool, cond, nat_eq, List, [], ◌∷◌, ◌++◌, length, count_by, refl, sym, ap, ◌∙◌, subst, inl, inr, arith, eq-eqb, ne_eqb, get_or, set, take, append-nil, Option}
+use Rattle.std.proofs.Common.{Result, Ok, Err, IsOk, IfOk, OnOk, OnErr, true, false, add-zero, ◌≡◌, ◌⊎◌, ℕ, zero, suc, ◌+◌, ◌<◌, ◌≤◌, Bool, cond, nat_eq, List, [], ◌∷◌, ◌++◌, length, count_by, refl, sym, ap, ◌∙◌, subst, inl, inr, arith, eq-eqb, ne_eqb, take, append-nil, Option}
 use mathlib.Core.Logic.{dite}
 use native.Mathlib.Decide.{ℕ_discrete}
 use Rattle.std.specs.Prelude.{Some, slice_get}
@@ -118,16 +118,6 @@ accounts_whole lines voids ledger seats history all whole a = record {
       let g = same_count (grants n) ledger.terms ledger seats history all refl whole in
       let h = a.granted n in omega arith;
 }
-
--- ---- a ledger with one seat
-
-pub one_seat : (ledger : LedgerView) (seats : List SeatView) (d : SeatView) → seats ≡ fresh_seats ledger.ledger ledger.terms 1
-    → get_or seats 0 d ≡ fresh_seat ledger.ledger ledger.terms 0
-one_seat ledger seats d is = ap (λ (l : List SeatView). get_or l 0 d) is
-
-pub operations_of_one : (ledger : LedgerView) (seats : List SeatView) (v : SeatView) → seats ≡ fresh_seats ledger.ledger ledger.terms 1
-    → operations_of (set seats 0 v) ≡ v.mine
-operations_of_one ledger seats v is = ap (λ (l : List SeatView). operations_of (set l 0 v)) is ∙ append-nil v.mine
 
 -- what a slice of a vector became is what the vector became
 pub written_back : (n : ℕ) (new rest : List SeatView) → n ≡ length new → take n (new ++ rest) ≡ new

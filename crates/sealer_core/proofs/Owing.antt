@@ -469,7 +469,7 @@ ending_settles n number operations operations' outcome ending =
 pub some_one : (n : ℕ) → n ≡ 1 → 0 < n
 some_one n one = omega arith
 
-one_mine : (seats : List SeatView) (w : SeatView) → length seats ≡ 1 → operations_of (set seats 0 w) ≡ w.mine
+pub one_mine : (seats : List SeatView) (w : SeatView) → length seats ≡ 1 → operations_of (set seats 0 w) ≡ w.mine
 one_mine [] w one = absurd (omega arith)
 one_mine (v ∷ []) w one = append-nil w.mine
 one_mine (v ∷ u ∷ seats) w one = absurd (omega arith)

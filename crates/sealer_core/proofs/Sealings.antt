@@ -11,10 +11,10 @@ use Rattle.command_core.specs.declared.line.FileOutcome.{FileOutcome}
 use Rattle.command_core.specs.declared.line.FileOutcome.TheVariants.{Failed}
 use Rattle.command_core.specs.Files.{AddsFiles}
 use Rattle.command_core.specs.Lines.{FileLine}
-use Rattle.command_core.specs.Turns.{Printed, printed}
+use Rattle.command_core.specs.Turns.{Printed}
 use Rattle.command_core.proofs.Files.{grows_to}
 use Rattle.command_core.proofs.Telling.{nothing_told}
-use Rattle.sealer_core.specs.Group.{AddsLines, AreEnded, refused_lines}
+use Rattle.sealer_core.specs.Group.{AddsLines, AreEnded, group_view, refused_lines}
 use Rattle.sealer_core.specs.Sealing.{Accounts, AddsSealed, AreSealed, IsOfSealing, SealedUnder, given_up_in, line_of}
 use Rattle.sealer_core.proofs.Owing.{let_go, nothing_held}
 use Rattle.sealer_core.proofs.FileEnds.{files_append, given_up_more, no_lines, one_file}
@@ -60,12 +60,11 @@ nothing_sealed under operations old rest accounts = record {
 }
 
 -- one more group
-pub sealed_more : (under : SealedUnder) (earlier more : List (List ℕ)) (operations operations' : List journal.Entry) (status status' : ℕ) (old : Printed)
-    (taken taken' : Option (List ℕ)) (failures failures' : Option ℕ) (before between after : Option RunRecord)
-    → AreSealed under earlier operations status old (printed taken failures) before between
-    → AreEnded (λ lines voids. Grows (AddsLines under lines voids) between after) more [] [] operations operations' status status' taken taken' failures failures'
-    → AreSealed under (earlier ++ more) operations' status' old (printed taken' failures') before after
-sealed_more under earlier more operations operations' status status' old taken taken' failures failures' before between after s e = record {
+pub sealed_more : (under : SealedUnder) (earlier more : List (List ℕ)) (operations operations' : List journal.Entry) (status status' : ℕ) (old mid new : Printed)
+    (before between after : Option RunRecord) → AreSealed under earlier operations status old mid before between
+    → AreEnded (λ lines voids. Grows (AddsLines under lines voids) between after) more (group_view [] operations status mid) (group_view [] operations' status' new)
+    → AreSealed under (earlier ++ more) operations' status' old new before after
+sealed_more under earlier more operations operations' status status' old mid new before between after s e = record {
   worked = record {
     lines = s.worked.lines ++ e.lines;
     named = map-append (λ (l : FileLine). l.name) s.worked.lines e.lines ∙ ap₂ (λ a b. a ++ b) s.worked.named e.named;

@@ -28,6 +28,7 @@ use Rattle.command_core.specs.declared.line.FileFault.TheVariants.{Unsealed}
 use Rattle.command_core.specs.Files.{AddsFiles}
 use Rattle.command_core.specs.Lines.{FileLine}
 use Rattle.command_core.specs.Putting.{once_if}
+use Rattle.command_core.specs.Turns.{Printed}
 use Rattle.command_core.specs.Work.{AreTold}
 use Rattle.folder_core.specs.declared.fault.FolderFault.{FolderFault}
 use Rattle.folder_core.specs.declared.fault.FolderFault.TheVariants as folder_fault
@@ -36,6 +37,7 @@ use Rattle.folder_core.specs.Growth.{with_entries}
 use Rattle.folder_core.specs.Record.{Container, Content, Created, Finished, GivenUp, Happened, Nothing, RunRecord, State}
 use Rattle.folder_core.specs.Record.{times_begun}
 use Rattle.folder_core.specs.Record as record_of
+use Rattle.sealer_core.specs.declared.context.PipeContext.{PipeContext}
 use Rattle.sealer_core.specs.declared.context.SealContext.{SealContext}
 use Rattle.sealer_core.specs.declared.prepare.Prepared.{Prepared}
 use Rattle.sealer_core.specs.declared.prepare.Prepared.TheVariants as prepared
@@ -121,13 +123,14 @@ pub record IsStarted (key : List ℕ) (range : Numbers) (r : RunRecord) : Type 0
   pub idle : r.in_hand ≡ None
   pub none : (number : ℕ) → times_begun number r.entries ≡ 0
 
-abbrev pub HasStarted : SealContext → Option RunRecord → Type 0
-HasStarted context rest = IfSome rest (IsStarted context.key.now context.ledger.now.terms.range)
-
--- what the files of a run are sealed under
+-- what the files of a run are sealed under, and its stream
 abbrev pub under_in : SealContext → SealedUnder
 under_in context = sealed_under context.key.now context.options.now.shape.now context.ledger.now.terms.range.device
     context.options.now.max_bytes
+
+abbrev pub piped_under : PipeContext → SealedUnder
+piped_under context = sealed_under context.key.now context.options.now.shape.now context.ledger.now.terms.range.device
+    context.options.now.max_chunks
 
 -- no number was granted twice
 pub record AreGrantedOnce (operations : List Entry) : Type 0 where
@@ -340,17 +343,27 @@ AreEndingIn at under lines voids files outcomes before after = IfSome after (λ 
 abbrev pub refused_lines : List (List ℕ) → List FileLine
 refused_lines names = map (λ name. line_of name (Failed OutOfMemory)) names
 
+-- A group at a moment: the outcomes that are left, the operations of its seats, the status so far, and what was printed.
+pub record GroupView : Type 0 where
+  pub outcomes : List Outcome
+  pub operations : List Entry
+  pub status : ℕ
+  pub lines : Printed
+
+abbrev pub group_view : List Outcome → List Entry → ℕ → Printed → GroupView
+group_view outcomes operations status lines =
+    record { outcomes = outcomes; operations = operations; status = status; lines = lines }
+
 -- Files of a group have these lines, in order. Status and operations are correct after them if they were before.
-pub record AreEnded (happened : List FileLine → List ℕ → Type 0) (names : List (List ℕ))
-    (outcomes outcomes' : List Outcome) (operations operations' : List Entry) (status status' : ℕ)
-    (old new : Option (List ℕ)) (failures failures' : Option ℕ) : Type 0 where
+pub record AreEnded (happened : List FileLine → List ℕ → Type 0) (names : List (List ℕ)) (old new : GroupView)
+    : Type 0 where
   pub lines : List FileLine
   pub voids : List ℕ
   pub named : map (λ line. line.name) lines ≡ names
   pub fitting : All (λ line. IsOfSealing line.outcome) lines
   pub told : (before : List FileLine) (first : Option (List ℕ)) (count : Option ℕ)
-      → AreTold status before first old count failures
-      → AreTold status' (before ++ lines) first new count failures'
-  pub accounts : (before : List FileLine) (earlier : List ℕ) → AreHeld before earlier outcomes operations
-      → AreHeld (before ++ lines) (earlier ++ voids) outcomes' operations'
+      → AreTold old.status before first old.lines.taken count old.lines.failures
+      → AreTold new.status (before ++ lines) first new.lines.taken count new.lines.failures
+  pub accounts : (before : List FileLine) (earlier : List ℕ) → AreHeld before earlier old.outcomes old.operations
+      → AreHeld (before ++ lines) (earlier ++ voids) new.outcomes new.operations
   pub done : happened lines voids

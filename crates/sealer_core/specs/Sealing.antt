@@ -19,7 +19,7 @@ use Rattle.reserve_core.specs.Reservations.{Lists, Holds, with_range}
 use Rattle.reserve_core.specs.Folded.{AreFolded, AreLeft, LeftBy}
 use Rattle.reserve_core.specs.Lasting.{StillLast}
 -- a range that was reserved and folded, and the operations of some seats
-pub use Rattle.command_core.specs.GrantedRange.{FoldsARange, IsReserved, operations_of}
+pub use Rattle.command_core.specs.GrantedRange.{FoldsARange, IsReserved, RangeAsked, operations_of, range_asked}
 use Rattle.sealer_core.specs.declared.sealing.SealOptions.{SealOptions}
 use Rattle.sqlite_disk.specs.declared.Disk as disk
 use Rattle.sqlite_disk.specs.declared.Files.{Files}
@@ -78,7 +78,8 @@ unissued_as issue_fault.OutOfMemory = Unsealed sealing_fault.OutOfMemory
 
 -- ---- what comes in the record for one file
 
--- What files are sealed under: a key, a shape and a device. A file may have `most` bytes.
+-- What files or a stream are sealed under: a key, a shape and a device. A file may have `most` bytes, a stream `most`
+-- chunks.
 pub record SealedUnder : Type 0 where
   pub key : List ℕ
   pub shape : ShapeView
@@ -253,7 +254,7 @@ abbrev pub ReservesFilesOnce : {D F : Type 0} {g : disk.Ghosts D} → (Held (Fil
 ReservesFilesOnce kept folded = ReservesOnce over_files kept folded AreLeft
 
 -- A fold of a range over files, as long as the disk returned what was written
-abbrev pub FoldsFiles : {D F : Type 0} {g : disk.Ghosts D} → (Held (FileStore D g) → F) → (Files D → F) → List ℕ → ℕ → ℕ
+abbrev pub FoldsFiles : {D F : Type 0} {g : disk.Ghosts D} → (Held (FileStore D g) → F) → (Files D → F) → RangeAsked
     → F → F → Numbers → Type 0
 FoldsFiles {g} kept folded =
     FoldsARange over_files kept folded (λ store left. AreClean g left.log left.db → AreFolded store left)

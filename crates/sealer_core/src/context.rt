@@ -1,6 +1,8 @@
-//! What is the same for all files of a run.
+//! What is the same for all of a run.
+ghost use Rattle.sealer_core.specs.Piping.{IsLawfulPipe};
 ghost use Rattle.sealer_core.specs.Sealing.{AreLawful};
 
+use crate::piping::PipeOptions;
 use crate::sealing::SealOptions;
 use container_core::Key;
 use ledger_core::Ledger;
@@ -14,4 +16,14 @@ pub(crate) struct SealContext<'q> {
     pub(crate) ledger: &'q Ledger,
     pub(crate) options: &'q SealOptions<'q>,
     ghost lawful: { AreLawful options.now },
+}
+
+/// The same for a stream.
+#[derive(Drop)]
+pub(crate) struct PipeContext<'q> {
+    pub(crate) alloc: Global,
+    pub(crate) key: &'q Key,
+    pub(crate) ledger: &'q Ledger,
+    pub(crate) options: &'q PipeOptions<'q>,
+    ghost lawful: { IsLawfulPipe options.now },
 }

@@ -12,8 +12,8 @@ ghost use Rattle.command_core.specs.Work.{AreTold};
 ghost use Rattle.folder_core.specs.Growth.{Grows};
 ghost use Rattle.folder_core.specs.Record.{RunRecord};
 ghost use Rattle.sealer_core.specs.Group.{AddsLines, AreEnded, AreEndingIn, AreGrantedOnce, AreHeld, AreKeyed, AreOwing};
-ghost use Rattle.sealer_core.specs.Group.{HasStarted, IsContainerUnder, IsEndIn, IsNewIn, IsPrepared, left_by, name_of};
-ghost use Rattle.sealer_core.specs.Group.{read_of, refused_lines, under_in, void_in};
+ghost use Rattle.sealer_core.specs.Group.{IsContainerUnder, IsEndIn, IsNewIn, IsPrepared, IsStarted, group_view, left_by};
+ghost use Rattle.sealer_core.specs.Group.{name_of, read_of, refused_lines, under_in, void_in};
 ghost use Rattle.sealer_core.specs.Sealing.{Accounts, AreSealed, IsOfSealing, line_of, operations_of};
 
 use crate::context::SealContext;
@@ -21,7 +21,7 @@ use crate::lane::{fault_of, seal_file};
 use crate::prepare::{Prepared, prepare_group};
 use crate::waiting::{put_waiting, spoil_waiting};
 use command_core::{FileFault, FileOutcome, MAX_BYTES, Report, tell};
-use container_core::{Key, SealFault, Shape};
+use container_core::SealFault;
 use crew_core::{Free, MAX_LANES, Outcome, seal_batch};
 use folder_core::Folder;
 use ledger_core::{Ledger, Seat};
@@ -115,8 +115,9 @@ fn end_group<F: Folder, L: Report>(
     ensures ended { AreEnded (λ lines voids. (before : Option RunRecord)
         → AreEndingIn F.Handle.at (under_in context.now) [] [] files.entry.items outcomes.items before
         (F.rest folder.old) → Grows (AddsLines (under_in context.now) lines voids) before (F.rest folder.new))
-        (map name_of files.entry.items) outcomes.items [] (operations_of seats.old) (operations_of seats.new)
-        start result (L.taken lines.old) (L.taken lines.new) (L.failures lines.old) (L.failures lines.new) }
+        (map name_of files.entry.items)
+        (group_view outcomes.items (operations_of seats.old) start (printed (L.taken lines.old) (L.failures lines.old)))
+        (group_view [] (operations_of seats.new) result (printed (L.taken lines.new) (L.failures lines.new))) }
 {
     let mut status = start;
     while let Some(file) = files.pop_front() {
@@ -144,21 +145,18 @@ fn lanes_for(jobs: &[Vec<u8>]) -> u32
 // Seals the jobs of a group, each lane with its own seat. Returns none if memory for the outcomes is refused.
 fn seal_jobs<T: Threads + Sync>(
     rt: &T,
-    alloc: Global,
-    key: &Key,
-    ledger: &Ledger,
+    context: &SealContext<'_>,
     seats: &mut [Seat],
     jobs: &[Vec<u8>],
-    shape: &Shape,
 ) -> VecDeque<Outcome>
-    requires owing { AreOwing ledger.now seats.old [] }
+    requires owing { AreOwing context.now.ledger.now seats.old [] }
     requires lanes { length seats.old ≤ MAX_LANES }
     requires few { length jobs.now ≤ length seats.old }
     requires short { All (λ job. length job.items ≤ MAX_BYTES) jobs.now }
-    ensures owing { AreOwing ledger.now seats.new result.items }
-    ensures outcomes { (result.items ≡ [])
-        ⊎ AreOutcomes key.now shape.now (map (λ job. job.items) jobs.now) result.items }
-    ensures containers { All (IsContainerUnder key.now shape.now) result.items }
+    ensures owing { AreOwing context.now.ledger.now seats.new result.items }
+    ensures outcomes { (result.items ≡ []) ⊎ AreOutcomes context.now.key.now context.now.options.now.shape.now
+        (map (λ job. job.items) jobs.now) result.items }
+    ensures containers { All (IsContainerUnder context.now.key.now context.now.options.now.shape.now) result.items }
     ensures settled { (number : ℕ)
         → times_settled number (operations_of seats.new) ≡ times_settled number (operations_of seats.old) }
     ensures accounts { (lines : List FileLine) (voids : List ℕ) → Accounts lines voids (operations_of seats.old)
@@ -166,9 +164,25 @@ fn seal_jobs<T: Threads + Sync>(
 {
     let lanes = lanes_for(jobs);
     if lanes == 0 {
-        return VecDeque::new(alloc);
+        return VecDeque::new(context.alloc);
     }
-    match seal_batch(rt, alloc, key, shape, ledger, seats, jobs, lanes, &Free) {
+    let SealContext {
+        alloc,
+        key,
+        ledger,
+        options,
+    } = *context;
+    match seal_batch(
+        rt,
+        alloc,
+        key,
+        options.shape,
+        ledger,
+        seats,
+        jobs,
+        lanes,
+        &Free,
+    ) {
         Ok(outcomes) => VecDeque::from(outcomes),
         Err(_) => VecDeque::new(alloc),
     }
@@ -240,16 +254,9 @@ fn seal_group<T: Threads + Wait + Sync, F: Folder, L: Report>(
     let Ok((files, jobs)) = prepare_group(context, folder, names, &mut kept.texts) else {
         return refuse_group(context.alloc, names, lines, status);
     };
-    let SealContext {
-        alloc,
-        key,
-        ledger,
-        options,
-    } = *context;
-    let texts = jobs.as_slice();
-    let outcomes = seal_jobs(rt, alloc, key, ledger, seats, texts, options.shape);
+    let outcomes = seal_jobs(rt, context, seats, jobs.as_slice());
     kept.texts = jobs;
-    meet_seats(ledger, seats);
+    meet_seats(context.ledger, seats);
     end_group(context, seats, folder, lines, status, files, outcomes)
 }
 
@@ -264,7 +271,8 @@ pub(crate) fn seal_groups<T: Threads + Wait + Sync, F: Folder, L: Report>(
     requires all { AreAllSeats context.now.ledger.now seats.old }
     requires lanes { (0 < length seats.old) × (length seats.old ≤ MAX_LANES) }
     requires fresh { operations_of seats.old ≡ [] }
-    requires started { HasStarted context.now (F.rest folder.old) }
+    requires started { IfSome (F.rest folder.old)
+        (IsStarted context.now.key.now context.now.ledger.now.terms.range) }
     ensures all { AreAllSeats context.now.ledger.now seats.new }
     ensures sealed { AreSealed (under_in context.now) (map (λ name. name.now) context.now.options.now.files.now)
         (operations_of seats.new) result (printed (L.taken lines.old) (L.failures lines.old))

@@ -23,12 +23,11 @@ pub use crate::piping::{PipeOptions, pipe_all};
 pub use crate::sealing::{SealOptions, seal_all};
 pub use crate::theorem::{a_call_is_a_run, no_nonce_is_used_twice, what_was_opened_was_sealed};
 pub use command_core::{
-    Facts, FileFault, FileOutcome, Folder, KeyFault, Line, MAX_BYTES, MAX_OPENED_BYTES,
-    OpenOptions, OpeningStream, Outs, Report, SealingFolder, SealingStream, UnpipeOptions,
-    open_all, read_key, unpipe_all, verify_all,
+    Facts, FileFault, FileOutcome, KeyFault, Line, MAX_BYTES, MAX_OPENED_BYTES, OpenOptions, Outs,
+    Report, SealingOutputs, UnpipeOptions, open_all, read_key, unpipe_all, verify_all,
 };
 pub use crew_core::{MAX_DEPTH, MAX_LANES, MAX_WINDOW, MAX_WORKERS};
-pub use folder_core::{FolderFault, OpeningFolder};
+pub use folder_core::{Folder, FolderFault, OpeningFolder, Outputs, Stream, ToStream};
 pub use opening_core::{
     Plaintext, open_one, run_open, run_open_by, run_plain, run_plain_by, run_verify, run_verify_by,
     verify_one,

@@ -1,32 +1,43 @@
 //! The command that seals a stream: one number is reserved, and what a reader gives is sealed under it as it comes.
-ghost use Rattle.std.specs.Prelude.{◌≡◌, ◌≢◌, ◌⊎◌, ℕ, Bool, Option, List, [], ◌<◌, ◌≤◌, IfOk, IfErr, is_ok, Ok};
-ghost use Rattle.std.specs.Prelude.{if◌then◌else◌, true, false};
+ghost use Rattle.std.specs.Prelude.{◌≡◌, ◌≢◌, ◌⊎◌, ℕ, Bool, List, [], ◌<◌, ◌≤◌, IfSome, OnErr, OnOk, option_map};
+ghost use Rattle.std.specs.Prelude.{if◌then◌else◌};
 ghost use Rattle.sha2.specs.Sha256.{sha256};
 ghost use Rattle.sqlite.specs.Held.{Held};
+ghost use Rattle.container_core.specs.Container.{container};
 ghost use Rattle.journal_core.specs.declared.entry.Entry.{Entry};
+ghost use Rattle.journal_core.specs.declared.entry.Way.TheVariants.{Sealed, Void};
 ghost use Rattle.journal_core.specs.Journal.{terms_of};
-ghost use Rattle.journal_core.specs.Range.{IsLawfulRange, Numbers};
+ghost use Rattle.journal_core.specs.Range.{IsLawfulRange, Numbers, prefix_of};
 ghost use Rattle.journal_core.specs.Text.{journal_text};
 ghost use Rattle.ledger_core.specs.Closing.{AreAllSeats};
-ghost use Rattle.ledger_core.specs.Shared.{fresh_seats, IsSameSeat};
+ghost use Rattle.ledger_core.specs.Shared.{fresh_seats, IsSameSeat, spent_as};
+ghost use Rattle.output_core.specs.Bounds.{Admits};
+ghost use Rattle.sealing_core.specs.Piped.{HasPipedContainer, stream_view};
+ghost use Rattle.folder_core.specs.Changes.{IsFresh, IsNewStream, IsUnstarted, started};
+ghost use Rattle.folder_core.specs.Record.{bound_in};
 ghost use Rattle.command_core.specs.Printing.{Complains};
-ghost use Rattle.command_core.specs.Session.{IsShut};
-ghost use Rattle.command_core.specs.GrantedRange.{StandsIn};
+ghost use Rattle.command_core.specs.Turns.{Printed, printed};
 ghost use Rattle.reserve_core.specs.Witness.{IsWitnessed};
-ghost use Rattle.sealer_core.specs.Piping.{HasSealedStream, IsPiped};
-ghost use Rattle.sealer_core.specs.Sealing.{FoldsARange, IsWritten, ReservesOnce, operations_of};
+ghost use Rattle.sealer_core.specs.Group.{IsStarted, piped_under};
+ghost use Rattle.sealer_core.specs.Piping.{FollowsLine, HasSealedStream, IsPiped, pipe_view};
+ghost use Rattle.sealer_core.specs.Sealing.{FoldsARange, IsWritten, ReservesOnce, operations_of, range_asked};
+ghost use Rattle.sealer_core.specs.Sealing.{sealed_under};
 
+use crate::context::PipeContext;
 use crate::ending::end_ledger;
 use crate::lane::{issue_to_file, settle_of_file};
-use crate::sealing::open_ledger;
-use crate::trouble::{RunFault, complain};
-use command_core::{FileFault, FileOutcome, Outs, Report, SealingStream, tell};
-use container_core::{Key, Shape};
+use crate::sealing::{open_ledger, start_record};
+use crate::trouble::complain;
+use command_core::{FileFault, FileOutcome, Outs, Report, SealingOutputs, tell};
+use container_core::{Key, SealFault, Shape};
 use crew_core::{Free, MAX_DEPTH, MAX_WORKERS};
-use ledger_core::{Device, Ledger, Seat, Source};
+use folder_core::laws::a_stream_goes_on;
+use folder_core::{Outputs, Rest, lent_of, taken_in_hand};
+use ledger_core::{Device, Grant, Seat, Source, Spent};
 use reserve_core::{Fold, LedgerFile, Witness};
 use sealing_core::run_pipe;
 use std::alloc::Global;
+use std::marker::Brand;
 use std::sync::Wait;
 use std::thread::Threads;
 
@@ -51,53 +62,105 @@ pub struct PipeOptions<'a> {
     pub shape: &'a Shape,
 }
 
-// Seals what a reader gives under the next number of the ledger, and settles that number. The ledger file has all
-// numbers of the ledger's range for good.
-fn pipe_next<T: Threads + Wait + Sync, S: Fold, R: Source, W: SealingStream>(
+// Seals by `run_pipe`. `N` names the record and the writer, so that both are known to be the same after it.
+fn stream_named<'w, N: Rest, T: Threads + Wait + Sync, R: Source, W: Outputs>(
     rt: &T,
-    alloc: Global,
-    key: &Key,
-    file: &LedgerFile<S>,
-    ledger: &Ledger,
-    seat: &mut Seat,
+    context: &PipeContext<'_>,
+    grant: Grant,
     reader: &mut R,
-    writer: &mut W,
-    options: &PipeOptions,
-) -> FileOutcome
-    requires stands { StandsIn S.Store LedgerFile.Kept LedgerFile.Folded S.is_folded key.now file.now
-        ledger.now.terms.range }
-    requires ours { (seat.old.ledger ≡ ledger.now.ledger) × (seat.old.terms ≡ ledger.now.terms) }
-    requires fresh { seat.old.mine ≡ [] }
-    requires workers { (0 < options.now.workers) × (options.now.workers ≤ MAX_WORKERS) }
-    requires depth { (0 < options.now.depth) × (options.now.depth ≤ MAX_DEPTH) }
-    requires most { 0 < options.now.max_chunks }
-    requires shut { IsShut (W.bound writer.old) (W.taken writer.old) }
-    ensures same { IsSameSeat seat.old seat.new }
-    ensures piped { IsPiped key.now options.now.shape.now options.now.max_chunks
-        (R.left reader.old) (R.left reader.new) (R.failures reader.old) (R.failures reader.new)
-        (W.taken writer.old) (W.taken writer.new) (W.failures writer.old) (W.failures writer.new)
-        seat.old.terms.range.device seat.new.mine result }
+    writer: &'w mut W,
+) -> (Result<u64, SealFault>, Spent, &'w mut W)
+    requires rest { W.rest writer.old ≡ N.rest }
+    requires reference { writer.ghost_name ≡ N.folder }
+    requires may { (plain : List ℕ) → Admits (option_map bound_in N.rest) (W.taken writer.old) (container
+        context.now.key.now context.now.options.now.shape.now (prefix_of grant.device grant.number) plain) }
+    ensures rest { W.rest result.2.now ≡ N.rest }
+    ensures reference { result.2.ghost_name ≡ writer.entry.ghost_name }
+    ensures pipes { HasPipedContainer context.now.key.now context.now.options.now.shape.now
+        (prefix_of grant.device grant.number) context.now.options.now.max_chunks
+        (stream_view (R.left reader.old) (R.failures reader.old) (W.taken writer.old) (W.failures writer.old))
+        (stream_view (R.left reader.new) (R.failures reader.new) (W.taken result.2.now) (W.failures result.2.now))
+        result.0 }
+    ensures sealed { OnOk result.0 (result.1 ≡ spent_as grant Sealed) }
+    ensures void { OnErr result.0 (result.1 ≡ spent_as grant Void) }
 {
-    let grant = match issue_to_file(ledger, seat) {
-        Ok(grant) => grant,
-        Err(fault) => return FileOutcome::Failed(fault),
-    };
-    let number = grant.number();
-    writer.allow_stream(file, ledger, seat, number, key, options.shape);
+    let mut output = taken_in_hand::<W, N>(writer);
+    let options = context.options;
     let (sealed, spent) = run_pipe(
         rt,
-        alloc,
-        key,
+        context.alloc,
+        context.key,
         options.shape,
         grant,
         reader,
-        writer,
+        &mut output,
         options.max_chunks,
         options.workers,
         options.depth,
         &Free,
     );
-    settle_of_file(ledger, seat, spent);
+    (sealed, spent, lent_of(output))
+}
+
+// Seals what a reader gives into the stream in hand.
+fn fill_stream<T: Threads + Wait + Sync, R: Source, W: Outputs>(
+    rt: &T,
+    context: &PipeContext<'_>,
+    grant: Grant,
+    reader: &mut R,
+    writer: &mut W,
+) -> (Result<u64, SealFault>, Spent)
+    requires may { (plain : List ℕ) → Admits (option_map bound_in (W.rest writer.old)) (W.taken writer.old) (container
+        context.now.key.now context.now.options.now.shape.now (prefix_of grant.device grant.number) plain) }
+    ensures rest { W.rest writer.new ≡ W.rest writer.old }
+    ensures pipes { HasPipedContainer context.now.key.now context.now.options.now.shape.now
+        (prefix_of grant.device grant.number) context.now.options.now.max_chunks
+        (stream_view (R.left reader.old) (R.failures reader.old) (W.taken writer.old) (W.failures writer.old))
+        (stream_view (R.left reader.new) (R.failures reader.new) (W.taken writer.new) (W.failures writer.new))
+        result.0 }
+    ensures sealed { OnOk result.0 (result.1 ≡ spent_as grant Sealed) }
+    ensures void { OnErr result.0 (result.1 ≡ spent_as grant Void) }
+{
+    let (sealed, spent, _writer) = stream_named::<Brand, T, R, W>(
+        rt, context, grant, reader, writer,
+    );
+    (sealed, spent)
+}
+
+// Takes a stream in hand, and seals what a reader gives to it under the next number of the ledger. Then settles that
+// number.
+fn pipe_next<T: Threads + Wait + Sync, R: Source, W: Outputs>(
+    rt: &T,
+    context: &PipeContext<'_>,
+    seat: &mut Seat,
+    reader: &mut R,
+    writer: &mut W,
+    output: W::Handle,
+) -> FileOutcome
+    requires ours { (seat.old.ledger ≡ context.now.ledger.now.ledger) × (seat.old.terms ≡ context.now.ledger.now.terms) }
+    requires unused { seat.old.mine ≡ [] }
+    requires started { IfSome (W.rest writer.old) (IsStarted context.now.key.now context.now.ledger.now.terms.range) }
+    requires new { IfSome (W.rest writer.old) (IsNewStream (W.Handle.at output)) }
+    requires fresh { IsFresh (W.rest writer.old) (W.taken writer.old) (W.failures writer.old) }
+    ensures same { IsSameSeat seat.old seat.new }
+    ensures piped { IsPiped (piped_under context.now) (W.Handle.at output)
+        (pipe_view (R.left reader.old) (R.failures reader.old) (W.taken writer.old) (W.failures writer.old)
+        (W.rest writer.old))
+        (pipe_view (R.left reader.new) (R.failures reader.new) (W.taken writer.new) (W.failures writer.new)
+        (W.rest writer.new)) seat.new.mine result }
+{
+    a_stream_goes_on();
+    let grant = match issue_to_file(context.ledger, seat) {
+        Ok(grant) => grant,
+        Err(fault) => return FileOutcome::Failed(fault),
+    };
+    let number = grant.number();
+    let shape = context.options.shape;
+    // Its contract says that it is the shape of a container.
+    let _chunk = shape.chunk();
+    writer.allow_container(output, number, shape);
+    let (sealed, spent) = fill_stream(rt, context, grant, reader, writer);
+    settle_of_file(context.ledger, seat, spent);
     match sealed {
         Ok(bytes) => FileOutcome::Sealed { number, bytes },
         Err(fault) => FileOutcome::Failed(FileFault::Unsealed(fault)),
@@ -105,90 +168,37 @@ fn pipe_next<T: Threads + Wait + Sync, S: Fold, R: Source, W: SealingStream>(
 }
 
 // Seals what a reader gives with the one seat of a new ledger.
-fn pipe_alone<T: Threads + Wait + Sync, S: Fold, R: Source, W: SealingStream>(
+fn pipe_alone<T: Threads + Wait + Sync, R: Source, W: Outputs>(
     rt: &T,
-    alloc: Global,
-    key: &Key,
-    file: &LedgerFile<S>,
-    ledger: &Ledger,
+    context: &PipeContext<'_>,
     seats: &mut [Seat],
     reader: &mut R,
     writer: &mut W,
-    options: &PipeOptions,
+    output: W::Handle,
 ) -> FileOutcome
-    requires stands { StandsIn S.Store LedgerFile.Kept LedgerFile.Folded S.is_folded key.now file.now
-        ledger.now.terms.range }
-    requires all { AreAllSeats ledger.now seats.old }
-    requires one { ledger.now.terms.seats ≡ 1 }
-    requires fresh { seats.old ≡ fresh_seats ledger.now.ledger ledger.now.terms 1 }
-    requires workers { (0 < options.now.workers) × (options.now.workers ≤ MAX_WORKERS) }
-    requires depth { (0 < options.now.depth) × (options.now.depth ≤ MAX_DEPTH) }
-    requires most { 0 < options.now.max_chunks }
-    requires shut { IsShut (W.bound writer.old) (W.taken writer.old) }
-    ensures all { AreAllSeats ledger.now seats.new }
-    ensures piped { IsPiped key.now options.now.shape.now options.now.max_chunks
-        (R.left reader.old) (R.left reader.new) (R.failures reader.old) (R.failures reader.new)
-        (W.taken writer.old) (W.taken writer.new) (W.failures writer.old) (W.failures writer.new)
-        ledger.now.terms.range.device (operations_of seats.new) result }
+    requires all { AreAllSeats context.now.ledger.now seats.old }
+    requires unused { seats.old ≡ fresh_seats context.now.ledger.now.ledger context.now.ledger.now.terms 1 }
+    requires started { IfSome (W.rest writer.old) (IsStarted context.now.key.now context.now.ledger.now.terms.range) }
+    requires new { IfSome (W.rest writer.old) (IsNewStream (W.Handle.at output)) }
+    requires fresh { IsFresh (W.rest writer.old) (W.taken writer.old) (W.failures writer.old) }
+    ensures all { AreAllSeats context.now.ledger.now seats.new }
+    ensures piped { IsPiped (piped_under context.now) (W.Handle.at output)
+        (pipe_view (R.left reader.old) (R.failures reader.old) (W.taken writer.old) (W.failures writer.old)
+        (W.rest writer.old))
+        (pipe_view (R.left reader.new) (R.failures reader.new) (W.taken writer.new) (W.failures writer.new)
+        (W.rest writer.new)) (operations_of seats.new) result }
 {
-    let seat = &mut seats[0];
-    pipe_next(rt, alloc, key, file, ledger, seat, reader, writer, options)
+    pipe_next(rt, context, &mut seats[0], reader, writer, output)
 }
 
-// Seals what a reader gives over a new ledger, prints its line, and ends the ledger. Returns the status of the line,
-// and how the ledger ended.
-fn pipe_over<T: Threads + Wait + Sync, S: Fold, R: Source, W: SealingStream, E: Report, J: Report>(
-    rt: &T,
-    alloc: Global,
-    key: &Key,
-    file: &LedgerFile<S>,
-    ledger: Ledger,
-    mut seats: Vec<Seat>,
-    reader: &mut R,
-    writer: &mut W,
-    options: &PipeOptions,
-    lines: &mut E,
-    journal: &mut Option<J>,
-) -> (u8, Result<(), RunFault>)
-    requires stands { StandsIn S.Store LedgerFile.Kept LedgerFile.Folded S.is_folded key.now file.now
-        ledger.terms.range }
-    requires all { AreAllSeats ledger seats.items }
-    requires one { ledger.terms.seats ≡ 1 }
-    requires fresh { seats.items ≡ fresh_seats ledger.ledger ledger.terms 1 }
-    requires workers { (0 < options.now.workers) × (options.now.workers ≤ MAX_WORKERS) }
-    requires depth { (0 < options.now.depth) × (options.now.depth ≤ MAX_DEPTH) }
-    requires most { 0 < options.now.max_chunks }
-    requires shut { IsShut (W.bound writer.old) (W.taken writer.old) }
-    ensures { (history : List Entry)
-        × HasSealedStream key.now options.now.shape.now options.now.max_chunks
-        (R.left reader.old) (R.left reader.new) (R.failures reader.old) (R.failures reader.new)
-        (W.taken writer.old) (W.taken writer.new) (W.failures writer.old) (W.failures writer.new)
-        ledger.terms history result.0 (E.taken lines.old) (E.taken lines.new) (E.failures lines.old)
-        (E.failures lines.new)
-        × IsWritten J.taken (journal_text ledger.terms history) (is_ok result.1) journal.old journal.new }
-{
-    let outcome = pipe_alone(
-        rt,
-        alloc,
-        key,
-        file,
-        &ledger,
-        seats.as_mut_slice(),
-        reader,
-        writer,
-        options,
-    );
-    let told = tell(alloc, lines, 0, STREAM, outcome);
-    (told, end_ledger(alloc, ledger, seats, journal))
-}
-
-/// Seals what a reader gives, to its end and as it comes, and writes its container, in the options' shape and under its
-/// own number. Its line, `sealed - file NUMBER bytes N` or `failed -: FAULT`, goes to `out.faults`, since standard
-/// output is for the container. Returns the exit status: 0 if the stream was sealed, 1 if that failed, 2 if no range
-/// was reserved, the ledger file wasn't folded, the witness didn't record the range or no ledger opened (then nothing
-/// was read or written), if the line couldn't be written, or if the journal couldn't be written whole. Each of these
-/// but the line has a text on standard error. A stream that knows what it may hold must be allowed no more yet than it
-/// took.
+/// Seals what a reader gives, to its end and as it comes, and writes its container to a stream, in the options' shape
+/// and under its own number. A writer (`Sink`) is a stream: its output is `Stream`. The line, `sealed - file NUMBER
+/// bytes N` or `failed -: FAULT`, goes to `out.faults`, since standard output is for the container.
+///
+/// Returns the exit status: 0 if the stream was sealed, 1 if that failed, 2 if no range was reserved, the ledger file
+/// wasn't folded, the witness didn't record the range or no ledger opened (then nothing was read or written), if the line
+/// couldn't be written, or if the journal couldn't be written whole. Each of these but the line has a text on standard
+/// error. The stream stays in hand: it has no end of its own.
 ///
 /// After a fault, what was written is a prefix of the stream's container: check the status, or open it. One range of
 /// one number is reserved, for good, and is in the ledger file itself before the stream is read. Nobody else may write
@@ -198,7 +208,7 @@ pub fn pipe_all<
     S: Fold,
     N: Witness,
     R: Source,
-    W: SealingStream,
+    W: SealingOutputs,
     L: Report + Drop,
     E: Report + Drop,
     J: Report + Drop,
@@ -210,33 +220,38 @@ pub fn pipe_all<
     witness: &mut N,
     reader: &mut R,
     writer: &mut W,
+    output: W::Handle,
     options: &PipeOptions,
     out: &mut Outs<L, E, J>,
 ) -> u8
     requires workers { (0 < options.now.workers) × (options.now.workers ≤ MAX_WORKERS) }
     requires depth { (0 < options.now.depth) × (options.now.depth ≤ MAX_DEPTH) }
     requires most { 0 < options.now.max_chunks }
-    requires shut { IsShut (W.bound writer.old) (W.taken writer.old) }
+    // Where the record is known, it has no key yet, and the output is a new stream that took nothing.
+    requires unstarted { IfSome (W.rest writer.old) IsUnstarted }
+    requires new { IfSome (W.rest writer.old) (IsNewStream (W.Handle.at output)) }
+    requires fresh { IsFresh (W.rest writer.old) (W.taken writer.old) (W.failures writer.old) }
     ensures status { result ≤ 2 }
     // Nothing was read or written; or the stream was sealed over a range of one number that was reserved. The ledger
     // file has that range without its log; one legal history is in the journal. On standard error there is a complaint,
     // or the stream's line and after it at most a complaint, each perhaps cut short.
     ensures run { ((result ≡ 2) × (reader.new ≡ reader.old) × (writer.new ≡ writer.old)
         × (out.new.journal ≡ out.old.journal) × Complains (E.taken out.old.faults) (E.taken out.new.faults))
-        ⊎ ((range : Numbers) × (history : List Entry) × (told : ℕ) × (written : Bool) × (lines : Option (List ℕ))
-        × (failures : Option ℕ)
-        × FoldsARange S.Store LedgerFile.Kept LedgerFile.Folded S.is_folded (sha256 key.now) options.now.device 1
-        file.old file.new range
+        ⊎ ((range : Numbers) × (history : List Entry) × (told : ℕ) × (written : Bool) × (line : Printed)
+        × FoldsARange S.Store LedgerFile.Kept LedgerFile.Folded S.is_folded
+        (range_asked (sha256 key.now) options.now.device 1) file.old file.new range
         × IsLawfulRange range
         × IsWitnessed (N.floor witness.old) (N.recorded witness.old) (N.recorded witness.new) range
-        × HasSealedStream key.now options.now.shape.now options.now.max_chunks
-        (R.left reader.old) (R.left reader.new) (R.failures reader.old) (R.failures reader.new)
-        (W.taken writer.old) (W.taken writer.new) (W.failures writer.old) (W.failures writer.new)
-        (terms_of range 1) history told (E.taken out.old.faults) lines (E.failures out.old.faults) failures
+        × HasSealedStream (sealed_under key.now options.now.shape.now range.device options.now.max_chunks)
+        (W.Handle.at output)
+        (pipe_view (R.left reader.old) (R.failures reader.old) (W.taken writer.old) (W.failures writer.old)
+        (option_map (started key.now range) (W.rest writer.old)))
+        (pipe_view (R.left reader.new) (R.failures reader.new) (W.taken writer.new) (W.failures writer.new)
+        (W.rest writer.new)) (terms_of range 1) history told
+        (printed (E.taken out.old.faults) (E.failures out.old.faults)) line
         × IsWritten J.taken (journal_text (terms_of range 1) history) written out.old.journal out.new.journal
         × (result ≡ (if written then told else 2))
-        × (written ≡ true → (E.taken out.new.faults ≡ lines) × (E.failures out.new.faults ≡ failures))
-        × (written ≡ false → Complains lines (E.taken out.new.faults))) }
+        × FollowsLine written line (printed (E.taken out.new.faults) (E.failures out.new.faults))) }
     ensures output { out.new.lines ≡ out.old.lines }
     // At most one range is appended, and a crash leaves the lists from before or those with it.
     ensures once { ReservesOnce S.Store LedgerFile.Kept LedgerFile.Folded S.is_left (sha256 key.now)
@@ -244,28 +259,24 @@ pub fn pipe_all<
     // A ledger file that has no keeper stays as it is.
     ensures other { ((k : Held S) → file.old ≢ LedgerFile.Kept k) → file.new ≡ file.old }
 {
-    let opened = open_ledger(alloc, key, file, options.device, 1, 1, witness);
-    let (ledger, seats) = match opened {
+    let (ledger, mut seats) = match open_ledger(alloc, key, file, options.device, 1, 1, witness) {
         Ok(opened) => opened,
         Err(fault) => {
             complain(alloc, &mut out.faults, fault);
             return TROUBLE;
         }
     };
-    let (told, ended) = pipe_over(
-        rt,
+    a_stream_goes_on();
+    start_record(file, key, &ledger, writer);
+    let context = PipeContext {
         alloc,
         key,
-        file,
-        ledger,
-        seats,
-        reader,
-        writer,
+        ledger: &ledger,
         options,
-        &mut out.faults,
-        &mut out.journal,
-    );
-    match ended {
+    };
+    let outcome = pipe_alone(rt, &context, seats.as_mut_slice(), reader, writer, output);
+    let told = tell(alloc, &mut out.faults, 0, STREAM, outcome);
+    match end_ledger(alloc, ledger, seats, &mut out.journal) {
         Ok(()) => told,
         Err(fault) => {
             complain(alloc, &mut out.faults, fault);

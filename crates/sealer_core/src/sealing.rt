@@ -3,7 +3,7 @@
 //! A range is reserved for good before any file is touched, and is in the ledger file itself, so a number that a run
 //! didn't use is given up. Files are sealed in turn with one lane, or in groups with several.
 ghost use Rattle.std.specs.Prelude.{◌≡◌, ◌≢◌, ◌⊎◌, ℕ, Bool, ◌<◌, ◌≤◌, List, length, map, IfOk, is_ok};
-ghost use Rattle.std.specs.Prelude.{if◌then◌else◌, IfSome, [], option_map};
+ghost use Rattle.std.specs.Prelude.{if◌then◌else◌, IfSome, option_map};
 ghost use Rattle.sha2.specs.Sha256.{sha256};
 ghost use Rattle.sqlite.specs.Held.{Held, state};
 ghost use Rattle.journal_core.specs.declared.entry.Entry.{Entry};
@@ -19,14 +19,14 @@ ghost use Rattle.reserve_core.specs.Witness.{IsWitnessed};
 ghost use Rattle.folder_core.specs.Changes.{Becomes, IsUnstarted, started};
 ghost use Rattle.command_core.specs.Turns.{printed};
 ghost use Rattle.sealer_core.specs.Group.{IsStarted};
-ghost use Rattle.sealer_core.specs.Sealing.{AppendsOnce, AreLawful, AreSealed, CrashesAround, FoldsARange, HasSealed};
-ghost use Rattle.sealer_core.specs.Sealing.{IsReserved, IsWritten, ReservesOnce, operations_of, sealed_under};
+ghost use Rattle.sealer_core.specs.Sealing.{AppendsOnce, AreLawful, CrashesAround, FoldsARange, HasSealed, IsReserved};
+ghost use Rattle.sealer_core.specs.Sealing.{IsWritten, ReservesOnce, range_asked, sealed_under};
 
 use crate::context::SealContext;
 use crate::ending::end_ledger;
 use crate::group::seal_groups;
 use crate::trouble::{RunFault, complain};
-use command_core::{MAX_BYTES, Outs, Report, SealingFolder};
+use command_core::{MAX_BYTES, Outs, Report, SealingOutputs};
 use container_core::{Key, Shape};
 use crew_core::{MAX_LANES, MAX_WINDOW, MAX_WORKERS};
 use folder_core::Folder;
@@ -93,8 +93,8 @@ fn reserve_for<S: Fold>(
     files: usize,
     floor: u64,
 ) -> Result<Range, RunFault>
-    ensures reserved { IfOk result (FoldsARange S.Store LedgerFile.Kept LedgerFile.Folded S.is_folded (sha256 key.now)
-        device files file.old file.new) }
+    ensures reserved { IfOk result (FoldsARange S.Store LedgerFile.Kept LedgerFile.Folded S.is_folded
+        (range_asked (sha256 key.now) device files) file.old file.new) }
     ensures once { ReservesOnce S.Store LedgerFile.Kept LedgerFile.Folded S.is_left (sha256 key.now) device files
         file.old file.new }
     ensures other { ((k : Held S) → file.old ≢ LedgerFile.Kept k) → file.new ≡ file.old }
@@ -121,7 +121,7 @@ pub(crate) fn open_ledger<S: Fold, N: Witness>(
     witness: &mut N,
 ) -> Result<(Ledger, Vec<Seat>), RunFault>
     ensures reserved { IfOk result (λ r. FoldsARange S.Store LedgerFile.Kept LedgerFile.Folded S.is_folded
-        (sha256 key.now) device files file.old file.new r.0.terms.range) }
+        (range_asked (sha256 key.now) device files) file.old file.new r.0.terms.range) }
     ensures opened { IfOk result (λ r. (r.0.terms.seats ≡ lanes) × AreAllSeats r.0 r.1.items
         × (r.1.items ≡ fresh_seats r.0.ledger r.0.terms lanes)) }
     ensures lawful { IfOk result (λ r. IsLawfulRange r.0.terms.range) }
@@ -147,52 +147,23 @@ pub(crate) fn open_ledger<S: Fold, N: Witness>(
     }
 }
 
-// Seals the files with the seats of a new ledger, after the folder's record got its key.
-fn seal_started<T: Threads + Wait + Sync, F: Folder, W: Report>(
-    rt: &T,
-    alloc: Global,
-    key: &Key,
-    ledger: &Ledger,
-    seats: &mut [Seat],
-    folder: &mut F,
-    options: &SealOptions,
-    lines: &mut W,
-) -> u8
-    requires all { AreAllSeats ledger.now seats.old }
-    requires lanes { (0 < length seats.old) × (length seats.old ≤ MAX_LANES) }
-    requires fresh { operations_of seats.old ≡ [] }
-    requires options { AreLawful options.now }
-    requires started { IfSome (F.rest folder.old) (IsStarted key.now ledger.now.terms.range) }
-    ensures all { AreAllSeats ledger.now seats.new }
-    ensures sealed { AreSealed (sealed_under key.now options.now.shape.now ledger.now.terms.range.device
-        options.now.max_bytes) (map (λ name. name.now) options.now.files.now) (operations_of seats.new) result
-        (printed (W.taken lines.old) (W.failures lines.old)) (printed (W.taken lines.new) (W.failures lines.new))
-        (F.rest folder.old) (F.rest folder.new) }
-{
-    let context = SealContext {
-        alloc,
-        key,
-        ledger,
-        options,
-    };
-    seal_groups(rt, &context, seats, folder, lines)
-}
-
-// Gives the folder's record the key and the range of the ledger. No output in it has a number.
-fn start_folder<S: Fold, F: SealingFolder>(
+/// Gives the record of a run the key and the range of the ledger. No output in it has a number.
+pub(crate) fn start_record<S: Fold, F: SealingOutputs>(
     file: &LedgerFile<S>,
     key: &Key,
     ledger: &Ledger,
-    folder: &mut F,
+    outputs: &mut F,
 )
     requires stands { StandsIn S.Store LedgerFile.Kept LedgerFile.Folded S.is_folded key.now file.now
         ledger.now.terms.range }
-    requires unstarted { IfSome (F.rest folder.old) IsUnstarted }
-    ensures began { Becomes (started key.now ledger.now.terms.range) (F.rest folder.old) (F.rest folder.new) }
-    ensures started { IfSome (F.rest folder.new) (IsStarted key.now ledger.now.terms.range) }
+    requires unstarted { IfSome (F.rest outputs.old) IsUnstarted }
+    ensures taken { F.taken outputs.new ≡ F.taken outputs.old }
+    ensures failures { F.failures outputs.new ≡ F.failures outputs.old }
+    ensures began { Becomes (started key.now ledger.now.terms.range) (F.rest outputs.old) (F.rest outputs.new) }
+    ensures started { IfSome (F.rest outputs.new) (IsStarted key.now ledger.now.terms.range) }
 {
     no_number_without_a_key();
-    folder.start(file, key, ledger);
+    outputs.start(file, key, ledger);
 }
 
 // Seals the files over a new ledger, and ends it. The ledger file has all numbers of its range for good. Returns the
@@ -200,7 +171,7 @@ fn start_folder<S: Fold, F: SealingFolder>(
 fn work_ledger<
     T: Threads + Wait + Sync,
     S: Fold,
-    F: SealingFolder,
+    F: Folder + SealingOutputs,
     L: Report + Drop,
     E: Report + Drop,
     J: Report + Drop,
@@ -233,10 +204,14 @@ fn work_ledger<
         out.old.journal out.new.journal }
     ensures faults { out.new.faults ≡ out.old.faults }
 {
-    start_folder(file, key, &ledger, folder);
-    let all = seats.as_mut_slice();
-    let lines = &mut out.lines;
-    let told = seal_started(rt, alloc, key, &ledger, all, folder, options, lines);
+    start_record(file, key, &ledger, folder);
+    let context = SealContext {
+        alloc,
+        key,
+        ledger: &ledger,
+        options,
+    };
+    let told = seal_groups(rt, &context, seats.as_mut_slice(), folder, &mut out.lines);
     (told, end_ledger(alloc, ledger, seats, &mut out.journal))
 }
 
@@ -264,7 +239,7 @@ pub fn seal_all<
     T: Threads + Wait + Sync,
     S: Fold,
     N: Witness,
-    F: SealingFolder,
+    F: Folder + SealingOutputs,
     L: Report + Drop,
     E: Report + Drop,
     J: Report + Drop,
@@ -291,8 +266,8 @@ pub fn seal_all<
     ensures run { ((result ≡ 2) × (folder.new ≡ folder.old) × (out.new.lines ≡ out.old.lines)
         × (out.new.journal ≡ out.old.journal))
         ⊎ ((range : Numbers) × (history : List Entry) × (told : ℕ) × (written : Bool)
-        × FoldsARange S.Store LedgerFile.Kept LedgerFile.Folded S.is_folded (sha256 key.now) options.now.device
-        (length options.now.files.now) file.old file.new range
+        × FoldsARange S.Store LedgerFile.Kept LedgerFile.Folded S.is_folded
+        (range_asked (sha256 key.now) options.now.device (length options.now.files.now)) file.old file.new range
         × IsLawfulRange range
         × IsWitnessed (N.floor witness.old) (N.recorded witness.old) (N.recorded witness.new) range
         × HasSealed (sealed_under key.now options.now.shape.now range.device options.now.max_bytes)

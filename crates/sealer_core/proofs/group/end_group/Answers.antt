@@ -16,7 +16,7 @@ loop-file-init g c = record {
   once = c.requires.once;
   keyed = c.requires.keyed;
   waits = (c.requires.waits.0, [], [], c.requires.waits.1);
-  ending = ending_none _ _ _ _ _ _ _ (λ before are. are);
+  ending = ending_none _ _ _ (λ before are. are);
 }
 
 pub end_file-outcome-requires-clause-waits : goal.end_file-outcome-requires-clause-waits
@@ -42,7 +42,7 @@ loop-file-preserved g c =
         _,
         one_more_ends g.F.Handle.Place.at (under_in c.args.context.now) i.waits.1 i.waits.2 c.in-Some.file _ _ _ _ _ i.waits.0 _ _ c.in-Some.ensures.items e.next idle i.waits.3 e.end,
       );
-      ending = ending_more _ _ _ _ _ c.in-Some.file _ _ _ _ _ _ _ _ _ _ _ _ _ _ _ _ _ _ c.in-Some.ensures.items c.name-name.ensures i.ending e.outcome c.tell-status.ensures e.accounts
+      ending = ending_more _ _ _ _ _ c.in-Some.file _ _ _ _ _ _ c.in-Some.ensures.items c.name-name.ensures i.ending e.outcome c.tell-status.ensures e.accounts
           (λ before are. one_more_ends g.F.Handle.Place.at (under_in c.args.context.now) _ _ c.in-Some.file _ _ _ _ _ before _ _ c.in-Some.ensures.items e.next idle
           (i.ending.ended.done before are) e.end);
     }
@@ -55,6 +55,6 @@ returns-clause-owing g c =
 pub returns-clause-ended : goal.returns-clause-ended
 returns-clause-ended g c =
     let none : c.loop-file.files.items ≡ [] = search rules in
-    ending_all _ _ _ c.loop-file.files.items _ _ _ _ _ _ _ _ _ _ none c.loop-file.invariant.few
+    ending_all _ _ _ c.loop-file.files.items _ _ none c.loop-file.invariant.few
     (λ lines voids done before are. all_end g.F.Handle.Place.at (under_in c.args.context.now) lines voids c.loop-file.files.items _ before _ none (done before are))
     c.loop-file.invariant.ending

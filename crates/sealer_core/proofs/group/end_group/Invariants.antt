@@ -2,7 +2,8 @@
 use Rattle.std.proofs.Common.{◌≤◌, ℕ, List, [], length, All, Option, flat_map}
 use Rattle.folder_core.specs.Record.{RunRecord}
 use Rattle.command_core.specs.Lines.{FileLine}
-use Rattle.sealer_core.specs.Group.{AreEndingIn, AreGrantedOnce, AreKeyed, AreOwing, IsContainerUnder, IsPrepared, read_of, under_in}
+use Rattle.command_core.specs.Turns.{printed}
+use Rattle.sealer_core.specs.Group.{AreEndingIn, AreGrantedOnce, AreKeyed, AreOwing, IsContainerUnder, IsPrepared, group_view, read_of, under_in}
 use Rattle.sealer_core.specs.Sealing.{operations_of}
 use Rattle.sealer_core.proofs.Groups.{AreEnding}
 use Rattle.sealer_core.proofs.group.end_group.Given as goal
@@ -20,8 +21,9 @@ invariant-loop-file g l = record {
   ending : AreEnding (λ lines voids. (before : Option RunRecord)
       → AreEndingIn g.F.Handle.Place.at (under_in l.context) [] [] l.initial.files.items l.initial.outcomes.items before (g.F.Outputs.rest l.initial.folder)
       → AreEndingIn g.F.Handle.Place.at (under_in l.context) lines voids l.files.items l.outcomes.items before (g.F.Outputs.rest l.folder))
-      l.initial.files.items l.files.items l.initial.outcomes.items l.outcomes.items (operations_of l.initial.seats) (operations_of l.seats) l.start l.status
-      (g.L.Report.taken l.initial.lines) (g.L.Report.taken l.lines) (g.L.Report.failures l.initial.lines) (g.L.Report.failures l.lines);
+      l.initial.files.items l.files.items
+      (group_view l.initial.outcomes.items (operations_of l.initial.seats) l.start (printed (g.L.Report.taken l.initial.lines) (g.L.Report.failures l.initial.lines)))
+      (group_view l.outcomes.items (operations_of l.seats) l.status (printed (g.L.Report.taken l.lines) (g.L.Report.failures l.lines)));
 }
 
 abbrev pub decreases-loop-file : goal.decreases-loop-file

@@ -17,10 +17,10 @@ returns-then-lanes-eq0-clause-accounts g c = λ lines voids a. held_as lines voi
 
 pub returns-in-Ok-clause-owing : goal.returns-in-Ok-clause-owing
 returns-in-Ok-clause-owing g c =
-    let all = all_after_batch c.args.ledger.now c.args.seats.now c.seal_batch.new.seats c.seal_batch.auto.seats c.seal_batch.ensures.seen c.requires.owing.all in
+    let all = all_after_batch c.args.context.now.ledger.now c.args.seats.now c.seal_batch.new.seats c.seal_batch.auto.seats c.seal_batch.ensures.seen c.requires.owing.all in
     owing_as _ _ c.in-Ok.outcomes.items _ (sym c.from.ensures.0) (record {
       all = all;
-      held = outcomes_held _ _ _ _ (length c.seal_batch.new.seats) c.args.ledger.now _ c.in-Ok.outcomes.items (omega (arith, c.lanes_for-lanes.ensures.within, c.requires.few, c.seal_batch.auto.seats))
+      held = outcomes_held _ _ _ _ (length c.seal_batch.new.seats) c.args.context.now.ledger.now _ c.in-Ok.outcomes.items (omega (arith, c.lanes_for-lanes.ensures.within, c.requires.few, c.seal_batch.auto.seats))
           c.in-Ok.ensures.outcomes c.in-Ok.ensures.at_seats all;
       owed = owed_batch c.args.seats.now c.seal_batch.new.seats _ c.seal_batch.auto.seats c.in-Ok.ensures.issued c.requires.owing.owed;
     })
@@ -30,7 +30,7 @@ returns-in-Ok-clause-accounts g c = λ lines voids a. held_as lines voids c.in-O
     (after_batch c.args.seats.now c.seal_batch.new.seats c.in-Ok.outcomes.items lines voids c.seal_batch.auto.seats (among_seats _ _ _ _ (omega (arith, c.lanes_for-lanes.ensures.within, c.requires.few)) c.in-Ok.ensures.at_seats) c.in-Ok.ensures.issued a)
 
 pub returns-in-Err-clause-owing : goal.returns-in-Err-clause-owing
-returns-in-Err-clause-owing g c = subst (λ (v : List SeatView). AreOwing c.args.ledger.now v c.new-in-Err.result.items) (sym c.in-Err.ensures.refused)
+returns-in-Err-clause-owing g c = subst (λ (v : List SeatView). AreOwing c.args.context.now.ledger.now v c.new-in-Err.result.items) (sym c.in-Err.ensures.refused)
     (owing_as _ _ _ _ (sym c.new-in-Err.ensures.items) c.requires.owing)
 
 pub returns-in-Err-clause-accounts : goal.returns-in-Err-clause-accounts
@@ -42,7 +42,7 @@ returns-then-lanes-eq0-clause-containers g c = none_under _ _ _ c.new.ensures.it
 
 pub returns-in-Ok-clause-containers : goal.returns-in-Ok-clause-containers
 returns-in-Ok-clause-containers g c =
-    subst (All (IsContainerUnder c.args.key.now c.args.shape.now)) (sym c.from.ensures.0) (containers_of c.args.key.now c.args.shape.now _ _ c.in-Ok.ensures.outcomes)
+    subst (All (IsContainerUnder c.args.context.now.key.now c.args.context.now.options.now.shape.now)) (sym c.from.ensures.0) (containers_of c.args.context.now.key.now c.args.context.now.options.now.shape.now _ _ c.in-Ok.ensures.outcomes)
 
 pub returns-in-Ok-clause-settled : goal.returns-in-Ok-clause-settled
 returns-in-Ok-clause-settled g c = λ n. batch_settles _ _ _ n c.seal_batch.auto.seats c.in-Ok.ensures.issued

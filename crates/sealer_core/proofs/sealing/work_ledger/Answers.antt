@@ -6,18 +6,18 @@ use Rattle.sealer_core.proofs.Numbering.{fresh_operations, has_sealed, written_b
 use Rattle.sealer_core.proofs.Started.{sealed_since}
 use Rattle.sealer_core.proofs.sealing.work_ledger.Goals as goal
 
-pub seal_started-told-requires-clause-fresh : goal.seal_started-told-requires-clause-fresh
-seal_started-told-requires-clause-fresh g c κs within =
-    ap operations_of (c.as_mut_slice-all.ensures.value ∙ c.requires.fresh) ∙ fresh_operations c.args.ledger.ledger c.args.ledger.terms c.args.options.now.lanes
+pub seal_groups-told-requires-clause-fresh : goal.seal_groups-told-requires-clause-fresh
+seal_groups-told-requires-clause-fresh g c κs within =
+    ap operations_of (c.as_mut_slice.ensures.value ∙ c.requires.fresh) ∙ fresh_operations c.args.ledger.ledger c.args.ledger.terms c.args.options.now.lanes
 
 pub returns-clause-sealed : goal.returns-clause-sealed
 returns-clause-sealed g c =
-    let seats : List SeatView = c.seal_started-told.new.seats in
+    let seats : List SeatView = c.seal_groups-told.new.seats in
     let back : take c.args.seats.len (seats ++ drop (length seats) c.args.seats.items) ≡ seats = written_back c.args.seats.len seats _ (omega arith) in
     let (history, whole, written) = c.end_ledger.ensures in (
       history,
-      has_sealed _ _ c.args.ledger seats history _ _ _ _ _ c.seal_started-told.ensures.all
+      has_sealed _ _ c.args.ledger seats history _ _ _ _ _ c.seal_groups-told.ensures.all
           (subst (λ (s : List SeatView). IsWhole c.args.ledger.terms s history) back whole)
-          (sealed_since c.args.key.now c.args.ledger.terms.range _ _ c.start_folder.ensures.began _ _ _ _ _ _ _ c.seal_started-told.ensures.sealed),
+          (sealed_since c.args.key.now c.args.ledger.terms.range _ _ c.start_record.ensures.began _ _ _ _ _ _ _ c.seal_groups-told.ensures.sealed),
       written,
     )
