@@ -3,20 +3,19 @@ use Rattle.std.proofs.Common.{◌≡◌, ◌⊎◌, inl, inr, ℕ, List, [], ◌
 use Rattle.journal_core.specs.Range.{Numbers}
 use Rattle.sqlite_disk.specs.declared.Disk.{Ghosts}
 use Rattle.sqlite_disk.specs.declared.Files.{Files}
-use Rattle.sqlite_wal.specs.Files.{outcomes}
 use Rattle.sqlite_wal.specs.Reads.{AreClean}
 use Rattle.sqlite_wal.specs.Recovery.{Image}
 use Rattle.sqlite_wal.proofs.LogLemmas.{SeenMayStay}
 use Rattle.sqlite_store.specs.declared.store.FileStore.{FileStore}
 use Rattle.sqlite.specs.Files.{file_state, over_files}
 use Rattle.sqlite.specs.Held.{Held}
-use Rattle.ranges_core.specs.Reservations.{Adjacent, Lists, Holds, TakenRange, end_from, next_of, taken_range, with_range}
+use Rattle.ranges_core.specs.Reservations.{Adjacent, Lists, TakenRange, end_from, next_of, taken_range, with_range}
 use Rattle.ranges_core.proofs.Behind.{behind, own_range}
 use Rattle.ranges_core.proofs.Lasting.{last_of}
-use Rattle.reserve_core.specs.NextRun.{AreIn, IsFound, PassInTurn}
-use Rattle.reserve_core.proofs.NextRun.{IsFolded, fold_clean, fold_keeps, fold_leaves, found_begins, holds_lists, reserves_behind}
+use Rattle.reserve_core.specs.NextRun.{AreIn, IsFound, PassesOn}
+use Rattle.reserve_core.proofs.NextRun.{IsFolded, fold_clean, fold_keeps, fold_leaves, found_begins, holds_lists}
 use Rattle.sealer_core.specs.Sealing.{IsReserved}
-use Rattle.sealer_core.specs.Theorem.{IsLeftOf}
+use Rattle.sealer_core.specs.Theorem.{FoldsFrom, IsLeftOf}
 
 -- a prefix of adjacent ranges ends no later than all of them
 front_ends : (from : ℕ) (front list : List TakenRange) → Adjacent from list → take (length front) list ≡ front → end_from from front ≤ end_from from list
@@ -32,12 +31,6 @@ front_ends from (x ∷ front) (y ∷ more) adjacent begins =
     let same : end_from (y.lo + y.size) front ≡ end_from (x.lo + x.size) front = ap (λ (r : TakenRange). end_from (r.lo + r.size) front) first in
     let ends = front_ends (from + y.size) front more then rest in omega arith
 
--- what a fold ensures: its range is after all that was found, and the next range over what is left is after it
-abbrev pub LeavesRange : List ℕ → ℕ → Image → Image → Numbers → Type 0
-LeavesRange key device start files range = (range.device ≡ device)
-    × ((lists : Lists) → AreIn lists start → next_of (lists key device) ≤ range.lo)
-    × (lists : Lists) × AreIn lists files × (range.lo + range.size ≤ next_of (lists key device))
-
 left_in : (lists : Lists) (crashed files : Image) → AreIn lists crashed × AreIn lists (record crashed { log = [] })
     → (files ≡ crashed) ⊎ (files ≡ record crashed { log = [] }) → AreIn lists files
 left_in lists crashed files are way = elim way [
@@ -45,49 +38,59 @@ left_in lists crashed files are way = elim way [
   | inr alone ↦ subst (AreIn lists) (sym alone) are.1
 ]
 
-module _ {D : Type 0} {g : Ghosts D} where
-  -- a range that was reserved and folded is in whatever is left of the files
-  pub range_left : (key : List ℕ) (device count : ℕ) (range : Numbers) (was mid : Held (FileStore D g)) (left : Files D) (files : Image)
-      (lists : Lists) → SeenMayStay g → Holds (file_state was).now lists → IsReserved key device count (file_state was) (file_state mid) range
-      → IsFolded mid left → AreClean g left.log left.db → outcomes g left.log left.db files
-      → AreIn (with_range lists key device count) files × AreIn (with_range lists key device count) (record files { log = [] })
-  range_left key device count range was mid left files lists stays hold reserved by honest may =
-      let after = with_range lists key device count in
-      let clean = fold_clean mid left by honest in
-      let shown = reserved.appended clean lists hold in
-      let last = last_of (file_state mid) after (reserved.lasts clean) shown.1 in
-      fold_leaves mid left after by honest (fold_keeps mid left after stays by honest last) files may
-
-  -- its numbers are these
-  pub range_is : (key : List ℕ) (device count : ℕ) (range : Numbers) (was mid : Held (FileStore D g)) (left : Files D) (lists : Lists)
-      → Holds (file_state was).now lists → IsReserved key device count (file_state was) (file_state mid) range → IsFolded mid left
-      → AreClean g left.log left.db → (range.lo ≡ next_of (lists key device)) × (range.size ≡ count)
-  range_is key device count range was mid left lists hold reserved by honest =
-      let shown = reserved.appended (fold_clean mid left by honest) lists hold in
-      (shown.0, reserved.asked.1)
-
-  pub comes_behind : (key : List ℕ) (device count : ℕ) (files last : Image) (between : List Image) (keeper : Held (FileStore D g))
-      (before lists : Lists) → AreIn (with_range before key device count) files → PassInTurn files between last → IsFound over_files last keeper
-      → Holds (file_state keeper).now lists → next_of (before key device) + count ≤ next_of (lists key device)
-  comes_behind key device count files last between keeper before lists are on found hold =
-      reserves_behind over_files files last between keeper (with_range before key device count) lists are on found hold key device
-      (length (before key device)) (taken_range (next_of (before key device)) count) (own_range before key device count)
-
-  pub leaves_range : (key : List ℕ) (device count : ℕ) (range : Numbers) (start files : Image) (was mid : Held (FileStore D g)) (left : Files D)
-      → SeenMayStay g → IsFound over_files start was → IsReserved key device count (file_state was) (file_state mid) range → IsFolded mid left
-      → AreClean g left.log left.db → IsLeftOf g left files → LeavesRange key device start files range
-  leaves_range key device count range start files was mid left stays found reserved by honest (crashed, may, way) =
+-- what was reserved and folded over a keeper that was made of what was found
+module _ {D : Type 0} {g : Ghosts D} (key : List ℕ) (device count : ℕ) (start : Image) (was mid : Held (FileStore D g)) (left : Files D) (range : Numbers)
+    (found : IsFound over_files start was) (reserved : IsReserved key device count (file_state was) (file_state mid) range) (by : IsFolded mid left)
+    (honest : AreClean g left.log left.db) where
+  -- its range is after all that was found
+  range_behind : (before : Lists) → AreIn before start → next_of (before key device) ≤ range.lo
+  range_behind before are =
       let (lists, hold) = holds_lists over_files start was found in
-      let (lo, size) = range_is key device count range was mid left lists hold reserved by honest in
-      let shown = (reserved.appended (fold_clean mid left by honest) lists hold).1 in
-      let both = range_left key device count range was mid left crashed lists stays hold reserved by honest may in
-      let end = (behind 0 (with_range lists key device count key device) (length (lists key device)) (taken_range (next_of (lists key device)) count)
-      (shown.rows.each key device).adjacent (own_range lists key device count)).1 in (
-        reserved.asked.0,
-        λ before are.
-            let first = front_ends 0 (before key device) (lists key device) (hold.rows.each key device).adjacent
-            (found_begins over_files start was before lists are found hold key device) in omega arith,
-        with_range lists key device count,
-        left_in (with_range lists key device count) crashed files both way,
-        omega arith,
-      )
+      let lo = (reserved.appended (fold_clean mid left by honest) lists hold).0 in
+      let first = front_ends 0 (before key device) (lists key device) (hold.rows.each key device).adjacent
+      (found_begins over_files start was before lists are found hold key device) in omega arith
+
+  -- and the next range over what is left is after it
+  range_stands : SeenMayStay g → (files : Image) → IsLeftOf g left files
+      → (lists : Lists) × AreIn lists files × (range.lo + range.size ≤ next_of (lists key device))
+  range_stands stays files (crashed, may, way) =
+      let (lists, hold) = holds_lists over_files start was found in
+      let after = with_range lists key device count in
+      let (lo, shown) = reserved.appended (fold_clean mid left by honest) lists hold in
+      let last = last_of (file_state mid) after (reserved.lasts (fold_clean mid left by honest)) shown in
+      let both = fold_leaves mid left after by honest (fold_keeps mid left after stays by honest last) crashed may in
+      let end = (behind 0 (after key device) (length (lists key device)) (taken_range (next_of (lists key device)) count)
+      (shown.rows.each key device).adjacent (own_range lists key device count)).1 in
+      let size = reserved.asked.1 in
+      (after, left_in after crashed files both way, omega arith)
+
+-- a range that was folded: it is of the device and after what was found, and over what is left the next is after it
+module _ {D F : Type 0} {g : Ghosts D} (kept : Held (FileStore D g) → F) (folded : Files D → F)
+    (one_kept : (a b : Held (FileStore D g)) → kept a ≡ kept b → a ≡ b) (one_folded : (a b : Files D) → folded a ≡ folded b → a ≡ b)
+    (key : List ℕ) (device : ℕ) (start : Image) (left : Files D) (range : Numbers) where
+  pub fold_behind : FoldsFrom {g = g} kept folded key device start left range
+      → (range.device ≡ device) × ((lists : Lists) → AreIn lists start → next_of (lists key device) ≤ range.lo)
+  fold_behind (count, keeper, found, (was, mid, rest, from, to, reserved, still, by), honest) = (
+    reserved.asked.0,
+    range_behind key device count start keeper mid left range found
+        (subst (λ k. IsReserved key device count (file_state k) (file_state mid) range) (sym (one_kept keeper was from)) reserved)
+        (subst (IsFolded mid) (sym (one_folded left rest to)) by) honest,
+  )
+
+  pub fold_stands : FoldsFrom {g = g} kept folded key device start left range → SeenMayStay g → (files : Image) → IsLeftOf g left files
+      → (lists : Lists) × AreIn lists files × (range.lo + range.size ≤ next_of (lists key device))
+  fold_stands (count, keeper, found, (was, mid, rest, from, to, reserved, still, by), honest) =
+      range_stands key device count start keeper mid left range found
+      (subst (λ k. IsReserved key device count (file_state k) (file_state mid) range) (sym (one_kept keeper was from)) reserved)
+      (subst (IsFolded mid) (sym (one_folded left rest to)) by) honest
+
+-- so the range of a later run is after it
+pub folds_apart : {D E F G : Type 0} {g : Ghosts D} {h : Ghosts E} (kept : Held (FileStore D g) → F) (folded : Files D → F) (holds : Held (FileStore E h) → G) (folds : Files E → G)
+    → ((a b : Held (FileStore D g)) → kept a ≡ kept b → a ≡ b) → ((a b : Files D) → folded a ≡ folded b → a ≡ b)
+    → ((a b : Held (FileStore E h)) → holds a ≡ holds b → a ≡ b) → ((a b : Files E) → folds a ≡ folds b → a ≡ b) → SeenMayStay g
+    → (key : List ℕ) (device : ℕ) (one other : Numbers) (start files last : Image) (left : Files D) (rest : Files E)
+    → FoldsFrom {g = g} kept folded key device start left one → IsLeftOf g left files → PassesOn files last → FoldsFrom {g = h} holds folds key device last rest other
+    → one.lo + one.size ≤ other.lo
+folds_apart kept folded holds folds one_kept one_folded one_holds one_folds stays key device one other start files last left rest first may on second =
+    let (lists, are, ends) = fold_stands kept folded one_kept one_folded key device start left one first stays files may in
+    let behind = (fold_behind holds folds one_holds one_folds key device last rest other second).1 lists (on lists are) in omega arith

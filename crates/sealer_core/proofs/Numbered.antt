@@ -1,6 +1,6 @@
 -- The law on prefixes. The ranges of a device's runs rise, since each one is after the one before. So a number is in one
 -- run's range, and one output of that run has it.
-use Rattle.std.proofs.Common.{◌≡◌, ℕ, zero, suc, ◌+◌, ◌<◌, ◌≤◌, true, List, [], ◌∷◌, Option, None, Some, refl, ap, ◌∙◌, subst, arith, eq-eqb}
+use Rattle.std.proofs.Common.{◌≡◌, ℕ, zero, suc, ◌+◌, ◌<◌, ◌≤◌, true, List, [], ◌∷◌, Option, None, Some, refl, sym, ap, ◌∙◌, subst, arith, eq-eqb}
 use mathlib.Core.Logic.{dite}
 use native.Mathlib.Decide.{dec_le}
 use Rattle.std.specs.Prelude.{slice_get}
@@ -14,9 +14,9 @@ use Rattle.folder_core.specs.Record.{Container, Content, Created, Holds, IsAllow
 use Rattle.journal_core.specs.Range.{Numbers, prefix_of}
 use Rattle.journal_core.proofs.Prefixes.{prefix_tells}
 use Rattle.output_core.specs.Bounds.{Allows}
-use Rattle.reserve_core.proofs.NextRun.{passed}
-use Rattle.sealer_core.specs.Theorem.{AreInTurn, AreRunsOf, Follows, IsKeyedBy, IsNumberedAt, IsRun, Place, Run}
-use Rattle.sealer_core.proofs.Lives.{not_apart}
+use Rattle.reserve_core.specs.NextRun.{PassesOn}
+use Rattle.sealer_core.specs.Theorem.{AreRunsOf, IsKeyedBy, IsOutputAt, IsRun, Place, Run}
+use Rattle.sealer_core.proofs.Lives.{not_apart, same_place}
 use Rattle.sealer_core.proofs.Numbering.{one_alone}
 
 -- ---- lists
@@ -26,28 +26,11 @@ all_at P [] i x all at = absurd (cc)
 all_at P (y ∷ xs) zero x all at = let same : y ≡ x = cc in subst P same all.0
 all_at P (y ∷ xs) (suc i) x all at = all_at P xs i x all.1 at
 
--- if each begins after the one before it, each later one does
-module _ {A : Type 0} (P : A → Type 0) (next : A → A → Type 0) (lo end : A → ℕ) (rises : (x : A) → lo x ≤ end x)
-    (behind : (x y : A) → P x → P y → next x y → end x ≤ lo y) where
-  others_behind : (x : A) (xs : List A) → P x → AllByRecursion P xs → AreInTurn next (x ∷ xs) → (j : ℕ) (y : A) → slice_get xs j ≡ Some y → end x ≤ lo y
-  others_behind x [] is all turn j y at = absurd (cc)
-  others_behind x (z ∷ xs) is all turn zero y at = let same : z ≡ y = cc in subst (λ (y : A). end x ≤ lo y) same (behind x z is all.0 turn.0)
-  others_behind x (z ∷ xs) is all turn (suc j) y at =
-      let first = behind x z is all.0 turn.0 in
-      let then = others_behind z xs all.0 all.1 turn.1 j y at in
-      let mid = rises z in omega arith
-
-  rest_in_turn : (x : A) (xs : List A) → AreInTurn next (x ∷ xs) → AreInTurn next xs
-  rest_in_turn x [] turn = tt
-  rest_in_turn x (z ∷ xs) turn = turn.1
-
-  all_behind : (xs : List A) → AllByRecursion P xs → AreInTurn next xs → (i j : ℕ) (x y : A) → i < j → slice_get xs i ≡ Some x → slice_get xs j ≡ Some y
-      → end x ≤ lo y
-  all_behind [] all turn i j x y less at also = absurd (cc)
-  all_behind (z ∷ xs) all turn i zero x y less at also = absurd (omega arith)
-  all_behind (z ∷ xs) all turn zero (suc j) x y less at also =
-      let same : z ≡ x = cc in subst (λ (x : A). end x ≤ lo y) same (others_behind z xs all.0 all.1 turn j y also)
-  all_behind (z ∷ xs) all turn (suc i) (suc j) x y less at also = all_behind xs all.1 (rest_in_turn z xs turn) i j x y (omega arith) at also
+-- one comes before each but the first
+one_before : {A : Type 0} (xs : List A) (i : ℕ) (x : A) → slice_get xs (suc i) ≡ Some x → (y : A) × (slice_get xs i ≡ Some y)
+one_before [] i x at = absurd (cc)
+one_before (y ∷ xs) zero x at = (y, refl)
+one_before (y ∷ xs) (suc i) x at = one_before xs i x at
 
 -- ---- an output of a sound record
 
@@ -90,20 +73,25 @@ rises None = omega arith
 rises (Some under) = omega arith
 
 -- what one run left, the next one found, and its range is after
-rise : (key : List ℕ) (device : ℕ) (one other : Run) → IsRun key device one → IsRun key device other → Follows one other
-    → end_of one ≤ lo_of other
-rise key device one other is was (between, on) =
+rise : (key : List ℕ) (device : ℕ) (one other : Run) → IsRun key device one → IsRun key device other
+    → PassesOn one.files other.start → end_of one ≤ lo_of other
+rise key device one other is was on =
     let (lists, are, ends) = is.stands in
-    let begins = was.behind lists (passed one.files other.start between on lists are) in
+    let begins = was.behind lists (on lists are) in
     let end : end_of one ≡ is.range.lo + is.range.size = ap end_in is.keyed in
     let lo : lo_of other ≡ was.range.lo = ap lo_in was.keyed in omega arith
 
 module _ (key : List ℕ) (runs : ℕ → List Run) (are : AreRunsOf key runs) where
   later : (device i j : ℕ) (one other : Run) → i < j → slice_get (runs device) i ≡ Some one → slice_get (runs device) j ≡ Some other
       → end_of one ≤ lo_of other
-  later device i j one other less at also =
-      all_behind (IsRun key device) Follows lo_of end_of (λ run. rises run.written.under) (rise key device) (runs device)
-      (are.each device) (are.in_turn device) i j one other less at also
+  later device i zero one other less at also = absurd (omega arith)
+  later device i (suc j) one other less at also =
+      let (mid, there) = one_before (runs device) j other also in
+      let next = rise key device mid other (are.each device j mid there) (are.each device (suc j) other also) (are.in_turn device j mid other there also) in
+      dite (dec_le (suc i) j)
+      (λ le. let first = later device i j one mid (omega arith) at there in let up = rises mid.written.under in omega arith)
+      (λ gt. let same : i ≡ j = omega arith in
+      let both : one ≡ mid = cc in subst (λ (r : Run). end_of r ≤ lo_of other) (sym both) next)
 
   -- a number is of one run
   one_run : (device i j number : ℕ) (one other : Run) → slice_get (runs device) i ≡ Some one → slice_get (runs device) j ≡ Some other
@@ -113,67 +101,61 @@ module _ (key : List ℕ) (runs : ℕ → List Run) (are : AreRunsOf key runs) w
       (λ le. let h = later device i j one other (omega arith) at also in omega arith)
       (λ gt. let h = later device j i other one (omega arith) also at in omega arith))
 
-  -- what is known of a number that an output has
-  record Standing (place : Place) (number : ℕ) (at : IsNumberedAt runs place number) : Type 0 where
-    once : times_begun number at.run.written.entries ≤ 1
-    hit : begins number (Created at.output) ≡ true
-    from : lo_of at.run ≤ number
-    below : number < end_of at.run
+  -- what is known of the number of an output
+  record Standing (place : Place) (at : IsOutputAt runs place) : Type 0 where
+    once : times_begun at.number at.run.written.entries ≤ 1
+    hit : begins at.number (Created at.output) ≡ true
+    from : lo_of at.run ≤ at.number
+    below : at.number < end_of at.run
     three_bytes : place.device ≤ 16777215
-    four_bytes : number < 4294967296
+    four_bytes : at.number < 4294967296
 
-  pub is_run : (place : Place) (number : ℕ) (at : IsNumberedAt runs place number) → IsRun key place.device at.run
-  is_run place number at = all_at (IsRun key place.device) (runs place.device) place.run at.run (are.each place.device) at.at_run
+  pub is_run : (place : Place) (at : IsOutputAt runs place) → IsRun key place.device at.run
+  is_run place at = are.each place.device place.run at.run at.at_run
 
-  standing : (place : Place) (number : ℕ) (at : IsNumberedAt runs place number) → IsSound at.run.written → Standing place number at
-  standing place number at sound =
-      let is = is_run place number at in
-      let (lawful, (from, below), plain) = begins_at key is.range at.run.written place.entry number at.output at.shape is.keyed sound at.at_entry at.content in
+  standing : (place : Place) (at : IsOutputAt runs place) → IsSound at.run.written → Standing place at
+  standing place at sound =
+      let is = is_run place at in
+      let (lawful, (from, below), plain) = begins_at key is.range at.run.written place.entry at.number at.output at.shape is.keyed sound at.at_entry at.content in
       let lo : lo_of at.run ≡ is.range.lo = ap lo_in is.keyed in
       let end : end_of at.run ≡ is.range.lo + is.range.size = ap end_in is.keyed in
       let last = is.lawful.end in
       let three : is.range.device ≤ 16777215 = is.lawful.device in
       record {
-        once = sound.once number;
-        hit = has_it number at.shape at.output.content at.content;
+        once = sound.once at.number;
+        hit = has_it at.number at.shape at.output.content at.content;
         from = omega arith;
         below = omega arith;
         three_bytes = subst (λ (d : ℕ). d ≤ 16777215) is.of_device three;
         four_bytes = omega arith;
       }
 
-  same_place : (one other : Place) → one.device ≡ other.device → one.run ≡ other.run → one.entry ≡ other.entry → one ≡ other
-  same_place one other d r e =
-      ap (λ x. record { device = x; run = one.run; entry = one.entry }) d
-      ∙ ap (λ x. record { device = other.device; run = x; entry = one.entry }) r
-      ∙ ap (λ x. record { device = other.device; run = other.run; entry = x }) e
-
-  one_place : (one other : Place) (number another : ℕ) (at : IsNumberedAt runs one number) (also : IsNumberedAt runs other another)
-      → Standing one number at → Standing other another also → prefix_of one.device number ≡ prefix_of other.device another → one ≡ other
-  one_place one other number another at also a b same =
-      let (devices, numbers) = prefix_tells one.device number other.device another a.three_bytes a.four_bytes b.three_bytes b.four_bytes same in
+  one_place : (one other : Place) (at : IsOutputAt runs one) (also : IsOutputAt runs other) → Standing one at → Standing other also
+      → prefix_of one.device at.number ≡ prefix_of other.device also.number → one ≡ other
+  one_place one other at also a b same =
+      let (devices, numbers) = prefix_tells one.device at.number other.device also.number a.three_bytes a.four_bytes b.three_bytes b.four_bytes same in
       let a_from = a.from in
       let a_below = a.below in
       let b_from = b.from in
       let b_below = b.below in
       let there : slice_get (runs one.device) other.run ≡ Some also.run = ap (λ x. slice_get (runs x) other.run) devices ∙ also.at_run in
-      let run = one_run one.device one.run other.run number at.run also.run at.at_run there
+      let run = one_run one.device one.run other.run at.number at.run also.run at.at_run there
       a_from a_below (omega arith) (omega arith) in
       let here : slice_get (runs one.device) one.run ≡ Some also.run = ap (λ x. slice_get (runs one.device) x) run ∙ there in
       let both : at.run ≡ also.run = cc (at.at_run, here) in
       let in_it : slice_get at.run.written.entries other.entry ≡ Some (Created also.output) =
       ap (λ (r : Run). slice_get r.written.entries other.entry) both ∙ also.at_entry in
       same_place one other devices run
-      (one_alone (begins number) at.run.written.entries one.entry other.entry (Created at.output) (Created also.output) a.once at.at_entry in_it
+      (one_alone (begins at.number) at.run.written.entries one.entry other.entry (Created at.output) (Created also.output) a.once at.at_entry in_it
       a.hit (ap (λ n. begins n (Created also.output)) numbers ∙ b.hit))
 
   place_code : Coded Place
   place_code = code_by (ℕ × (ℕ × ℕ)) (coded× coded_ℕ (coded× coded_ℕ coded_ℕ)) (λ p. (p.device, (p.run, p.entry)))
       (λ t. record { device = t.0; run = t.1.0; entry = t.1.1 }) (λ _. refl)
 
-  pub one_prefix : (one other : Place) (number another : ℕ) → IsNumberedAt runs one number → IsNumberedAt runs other another
-      → prefix_of one.device number ≡ prefix_of other.device another → one ≡ other
-  one_prefix one other number another at also same =
-      ∥∥₁_elim (is_run one number at).sound (Coded-set place_code _ _) (λ sound.
-      ∥∥₁_elim (is_run other another also).sound (Coded-set place_code _ _) (λ sound_too.
-      one_place one other number another at also (standing one number at sound) (standing other another also sound_too) same))
+  pub one_prefix : (one other : Place) (at : IsOutputAt runs one) (also : IsOutputAt runs other)
+      → prefix_of one.device at.number ≡ prefix_of other.device also.number → one ≡ other
+  one_prefix one other at also same =
+      ∥∥₁_elim (is_run one at).sound (Coded-set place_code _ _) (λ sound.
+      ∥∥₁_elim (is_run other also).sound (Coded-set place_code _ _) (λ sound_too.
+      one_place one other at also (standing one at sound) (standing other also sound_too) same))

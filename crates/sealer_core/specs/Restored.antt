@@ -1,120 +1,75 @@
--- What was opened was sealed: what a run that ended read and finished, what a call opened, and what belongs to a line.
-use Rattle.std.specs.Prelude.{◌≡◌, ◌⊎◌, ℕ, List, [], ◌∷◌, ◌++◌, Option, Some}
-use Rattle.container_core.specs.Shape.{IsShape, ShapeView}
-use Rattle.journal_core.specs.declared.entry.Entry.{Entry}
+-- What was opened was sealed: what runs and calls that ended added to the record, and what they made of what.
+use Rattle.std.specs.Prelude.{◌≡◌, ◌⊎◌, ℕ, List, ◌∷◌, ◌++◌, Option, Some, slice_get}
+use Rattle.container_core.specs.Shape.{IsShape}
+use Rattle.journal_core.specs.declared.entry.Entry as operation
 use Rattle.journal_core.specs.declared.terms.Terms.{Terms}
 use Rattle.folder_core.specs.Growth.{with_entries}
-use Rattle.folder_core.specs.Record.{Content, Read, Repeated, RunRecord, State}
-use Rattle.folder_core.specs.Record as record_of
-use Rattle.command_core.specs.declared.line.FileOutcome.{FileOutcome}
+use Rattle.folder_core.specs.Record.{Content, Entry, Finished, Happened, Read, Repeated, RunRecord}
+use Rattle.command_core.specs.declared.line.FileOutcome.TheVariants.{Opened, Sealed}
 use Rattle.command_core.specs.Putting.{closed_output}
 use Rattle.command_core.specs.Files.{AddsOpened, HaveAdded}
-use Rattle.command_core.specs.Trace.{Event, Reading, Unread, Rewound, Closed, Created, Refused, Finished, Discarded}
 use Rattle.command_core.specs.Turns.{Printed}
+use Rattle.command_core.specs.Unpiping.{Unpipes}
 use Rattle.command_core.specs.Work.{IsOfOpening, output_for}
-use Rattle.sealer_core.specs.Piping.{HasSealedStream}
-use Rattle.sealer_core.specs.Sealing.{HasSealed, sealed_name, sealed_under}
+use Rattle.sealer_core.specs.Piping.{HasSealedStream, PipeView}
+use Rattle.sealer_core.specs.Sealing.{HasSealed, SealedUnder, sealed_name}
 
--- ---- a run that ended
+-- One of these entries is an output of this name that was finished with these bytes.
+abbrev pub IsFinishedIn : List Entry → List ℕ → List ℕ → Type 0
+IsFinishedIn entries name bytes = (before : List Entry) × (content : Content) × (failures : ℕ) × (after : List Entry)
+    × (entries ≡ before ++ closed_output name content bytes failures Finished ∷ after)
 
--- A run of `seal_all` (its clause `run`), over a folder to whose record it added these entries.
-pub record WroteFiles (key : List ℕ) (terms : Terms) (history : List Entry) : Type 0 where
-  -- every `Shape` is one
-  pub shape : ShapeView
-  pub is_shape : IsShape shape
-  pub names : List (List ℕ)
-  pub before : RunRecord
-  pub entries : List record_of.Entry
-  pub sealed : (most : ℕ) × (status : ℕ) × (old : Printed) × (new : Printed)
-      × HasSealed (sealed_under key shape terms.range.device most) names terms history status old new
-      (Some before) (Some (with_entries entries before))
+-- It was created right after this entry, and no write to it failed.
+abbrev pub IsFinishedAfter : Entry → List Entry → List ℕ → List ℕ → Type 0
+IsFinishedAfter entry entries name bytes = (before : List Entry) × (content : Content) × (after : List Entry)
+    × (entries ≡ before ++ entry ∷ closed_output name content bytes 0 Finished ∷ after)
 
--- A run of `pipe_all` (its clause `run`), over a reader that had this input and a writer that took these bytes. Its
--- line says `outcome` of it.
-pub record WroteStream (key : List ℕ) (terms : Terms) (history : List Entry) : Type 0 where
-  pub shape : ShapeView
-  pub is_shape : IsShape shape
-  pub input : List ℕ
-  pub taken : List ℕ
-  pub bytes : List ℕ
-  pub outcome : FileOutcome
-  pub sealed : (most : ℕ) × (left : Option (List ℕ)) × (failures : Option ℕ) × (failures' : Option ℕ)
-      × (refusals : Option ℕ) × (refusals' : Option ℕ) × (status : ℕ) × (old : Option (List ℕ))
-      × (new : Option (List ℕ))
-      × (faults : Option ℕ) × (faults' : Option ℕ)
-      × (stream : HasSealedStream key shape most (Some input) left failures failures' (Some taken)
-      (Some (taken ++ bytes)) refusals refusals' terms history status old new faults faults')
-      × (stream.outcome ≡ outcome)
+-- ---- sealed
 
--- ---- what was read and finished, for a line
+-- A run of `seal_all` that ended added these entries to the record (its clause `run`). Every `Shape` is one.
+abbrev pub HasSealedFiles : SealedUnder → List Entry → Type 0
+HasSealedFiles under entries = IsShape under.shape × (names : List (List ℕ)) × (terms : Terms)
+    × (history : List operation.Entry) × (status : ℕ) × (old : Printed) × (new : Printed) × (before : RunRecord)
+    × HasSealed under names terms history status old new (Some before) (Some (with_entries entries before))
 
--- the bytes of the inputs that were read, in order
-abbrev pub read_in : List Event → List (List ℕ)
-read_in [] = []
-read_in (Reading name bytes ∷ events) = bytes ∷ read_in events
-read_in (Unread name ∷ events) = read_in events
-read_in (Rewound name failed ∷ events) = read_in events
-read_in (Closed name failed ∷ events) = read_in events
-read_in (Created name ∷ events) = read_in events
-read_in (Refused name fault ∷ events) = read_in events
-read_in (Finished name bytes ∷ events) = read_in events
-read_in (Discarded name bytes ∷ events) = read_in events
+-- A run of `pipe_all` that ended, and whose line says `sealed`, had this input, and wrote these bytes (its clause `run`).
+abbrev pub HasSealedInput : SealedUnder → List ℕ → List ℕ → Type 0
+HasSealedInput under input bytes = IsShape under.shape × (place : ℕ) × (old : PipeView) × (new : PipeView)
+    × (terms : Terms) × (history : List operation.Entry) × (status : ℕ) × (line : Printed) × (line_then : Printed)
+    × (sealed : HasSealedStream under place old new terms history status line line_then) × (number : ℕ) × (count : ℕ)
+    × (sealed.outcome ≡ Sealed number count) × (old.stream.left ≡ Some input)
+    × (taken : List ℕ) × (old.stream.taken ≡ Some taken) × (new.stream.taken ≡ Some (taken ++ bytes))
 
--- the bytes of the files that were read, at first or again, in order
-abbrev pub readings_of : List record_of.Entry → List (List ℕ)
-readings_of [] = []
-readings_of (record_of.Happened (Read name bytes) ∷ entries) = bytes ∷ readings_of entries
-readings_of (record_of.Happened (Repeated name bytes) ∷ entries) = bytes ∷ readings_of entries
-readings_of (_ ∷ entries) = readings_of entries
+-- This input was sealed to these bytes: a file's to those with which its output was finished, or a stream's.
+abbrev pub WasSealed : SealedUnder → List ℕ → List ℕ → Type 0
+WasSealed under input bytes = ((entries : List Entry) × (file : List ℕ) × HasSealedFiles under entries
+    × IsFinishedAfter (Happened (Read file input)) entries (sealed_name file) bytes) ⊎ HasSealedInput under input bytes
 
--- the bytes of an output in this state, if it was finished
-abbrev pub if_finished : State → List ℕ → List (List ℕ)
-if_finished record_of.Finished bytes = bytes ∷ []
-if_finished _ bytes = []
+-- ---- opened
 
--- those of the outputs that were finished
-abbrev pub finished_of : List record_of.Entry → List (List ℕ)
-finished_of [] = []
-finished_of (record_of.Happened event ∷ entries) = finished_of entries
-finished_of (record_of.Created output ∷ entries) = if_finished output.state output.bytes ++ finished_of entries
+-- A call of `open_all` that ended added these entries to the record (its clause `files`). The name of the output may be
+-- given.
+abbrev pub HasOpenedFiles : List ℕ → Option (List ℕ) → List Entry → Type 0
+HasOpenedFiles key to entries = (names : List (List ℕ)) × (most : ℕ) × (label : Option (List ℕ)) × (status : ℕ)
+    × (old : Printed) × (new : Printed) × (before : RunRecord)
+    × HaveAdded (IsOfOpening to) (λ name. AddsOpened key most label (output_for to name) name) names status old new
+    (Some before) (Some (with_entries entries before))
 
--- ---- and by a call
+-- The last reading of a file gave these bytes, and right after that its output was finished with this plaintext.
+abbrev pub IsOpenedIn : Option (List ℕ) → List Entry → List ℕ → List ℕ → List ℕ → Type 0
+IsOpenedIn to entries file bytes plain =
+    IsFinishedAfter (Happened (Read file bytes)) entries (output_for to file) plain
+    ⊎ IsFinishedAfter (Happened (Repeated file bytes)) entries (output_for to file) plain
 
--- A call of `open_all` (its clause `files`), over a folder whose record it added these entries to. The name of the
--- output may be given.
-pub record OpenedFiles (key : List ℕ) : Type 0 where
-  pub names : List (List ℕ)
-  pub to : Option (List ℕ)
-  pub before : RunRecord
-  pub entries : List record_of.Entry
-  pub opened : (most : ℕ) × (label : Option (List ℕ)) × (status : ℕ) × (old : Printed) × (new : Printed)
-      × HaveAdded (IsOfOpening to) (λ name. AddsOpened key most label (output_for to name) name) names status old new
-      (Some before) (Some (with_entries entries before))
+-- A call of `unpipe_all`, whose line says `opened`, wrote this plaintext to a stream (its clause `run`). The second and
+-- last reading of its file gave these bytes.
+abbrev pub HasUnpipedTo : List ℕ → List ℕ → List ℕ → Type 0
+HasUnpipedTo key bytes plain = (most : ℕ) × (label : Option (List ℕ)) × (name : List ℕ) × (taken : List ℕ) × (n : ℕ)
+    × (new : List Entry) × (content : Option Content)
+    × Unpipes key most label name (Some taken) (Some (taken ++ plain)) (Opened n) new content
+    × (slice_get new 1 ≡ Some (Happened (Repeated name bytes)))
 
--- it is one of these
-abbrev pub IsAmong : {A : Type 0} → A → List A → Type 0
-IsAmong {A} one all = (before : List A) × (after : List A) × (all ≡ before ++ one ∷ after)
-
--- one of these entries is an output of this name that was finished with these bytes
-abbrev pub IsFinishedAmong : List ℕ → List ℕ → List record_of.Entry → Type 0
-IsFinishedAmong name bytes entries = (content : Content) × (failures : ℕ)
-    × IsAmong (closed_output name content bytes failures record_of.Finished) entries
-
--- A file was read as `input`, and right after that its output was created, and finished with `bytes` without a failed
--- write.
-abbrev pub WasSealed : List record_of.Entry → List ℕ → List ℕ → List ℕ → Type 0
-WasSealed entries file input bytes = (before : List record_of.Entry) × (content : Content)
-    × (after : List record_of.Entry) × (entries ≡ before ++ record_of.Happened (Read file input)
-    ∷ closed_output (sealed_name file) content bytes 0 record_of.Finished ∷ after)
-
--- a file of this name was read, at first or again, and has these bytes
-abbrev pub IsReadingOf : List ℕ → List ℕ → record_of.Entry → Type 0
-IsReadingOf file bytes entry =
-    (entry ≡ record_of.Happened (Read file bytes)) ⊎ (entry ≡ record_of.Happened (Repeated file bytes))
-
--- The last reading of a file gave `bytes`, and right after that its output was created, and finished with `plain`
--- without a failed write. The name of the output may be given.
-abbrev pub WasOpened : Option (List ℕ) → List record_of.Entry → List ℕ → List ℕ → List ℕ → Type 0
-WasOpened to entries file bytes plain = (before : List record_of.Entry) × (reading : record_of.Entry)
-    × (content : Content) × (after : List record_of.Entry) × IsReadingOf file bytes reading
-    × (entries ≡ before ++ reading ∷ closed_output (output_for to file) content plain 0 record_of.Finished ∷ after)
+-- These bytes, as they were read last, were opened to this plaintext: into a file's output, or a stream.
+abbrev pub WasOpened : List ℕ → List ℕ → List ℕ → Type 0
+WasOpened key bytes plain = ((to : Option (List ℕ)) × (entries : List Entry) × (file : List ℕ)
+    × HasOpenedFiles key to entries × IsOpenedIn to entries file bytes plain) ⊎ HasUnpipedTo key bytes plain

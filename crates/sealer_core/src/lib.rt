@@ -27,7 +27,9 @@ pub use command_core::{
     Report, SealingOutputs, UnpipeOptions, open_all, read_key, unpipe_all, verify_all,
 };
 pub use crew_core::{MAX_DEPTH, MAX_LANES, MAX_WINDOW, MAX_WORKERS};
-pub use folder_core::{Folder, FolderFault, OpeningFolder, Outputs, Stream, ToStream};
+pub use folder_core::{
+    Folder, FolderFault, OpeningFolder, Outputs, Place, Stream, ToStream, Whole,
+};
 pub use opening_core::{
     Plaintext, open_one, run_open, run_open_by, run_plain, run_plain_by, run_verify, run_verify_by,
     verify_one,

@@ -1,5 +1,5 @@
 //! How two runs of one ledger file relate, and how the outputs of one run relate to its history.
-ghost use Rattle.std.specs.Prelude.{◌≡◌, ◌⊎◌, ◌+◌, ◌≤◌, ℕ, List, [], Some};
+ghost use Rattle.std.specs.Prelude.{◌≡◌, ◌+◌, ◌≤◌, ℕ, List, Some};
 ghost use Rattle.command_core.specs.Turns.{Printed};
 ghost use Rattle.folder_core.specs.Growth.{with_entries};
 ghost use Rattle.folder_core.specs.Record.{RunRecord, times_begun};
@@ -8,31 +8,23 @@ ghost use Rattle.journal_core.specs.declared.entry.Entry.{Entry};
 ghost use Rattle.journal_core.specs.declared.terms.Terms.{Terms};
 ghost use Rattle.journal_core.specs.History.{times_granted};
 ghost use Rattle.journal_core.specs.Range.{Numbers};
-ghost use Rattle.sqlite.specs.Files.{over_files};
-ghost use Rattle.sqlite_wal.specs.Files.{outcomes};
-ghost use Rattle.sqlite_wal.specs.Reads.{AreClean};
 ghost use Rattle.sqlite_wal.specs.Recovery.{Image};
-ghost use Rattle.reserve_core.specs.NextRun.{IsFound, PassInTurn};
-ghost use Rattle.sealer_core.specs.Sealing.{FoldsFiles, HasSealed, SealedUnder};
+ghost use Rattle.reserve_core.specs.NextRun.{PassesOn};
+ghost use Rattle.sealer_core.specs.Sealing.{HasSealed, SealedUnder};
+ghost use Rattle.sealer_core.specs.Theorem.{FoldsFrom, IsLeftOf};
 
 use reserve_core::LedgerFile;
 use sqlite::Files;
 use sqlite_disk::Disk;
 
-/// No number is in the ranges of two runs. `seal_all` folds a range of a key and device; then a crash leaves any
-/// allowed state of the two files, or the log is lost. Any runs pass on what they found there, one after another. A
-/// later run's keeper is made of what it finds, and its range of that key and device is after the first. The disks
-/// return what was written to them, and may be of different types.
+/// No number is in the ranges of two runs. One folds a range of a key and device; then a crash leaves any allowed state of
+/// the two files, or the log is lost. Any runs pass on what they found there. A later run's keeper is made of what it finds,
+/// and its range of that key and device is after the first. The disks may be of different types.
 pub fn runs_are_apart<D: Disk + Drop, E: Disk + Drop>()
-    ensures { (key_id : List ℕ) (device count more : ℕ) (one other : Numbers) (start files last : Image)
-        (between : List Image) (was now : _) (new newer : _) (left : Files D) (rest : Files E)
-        → IsFound (over_files {g = D.Disk}) start was
-        → FoldsFiles LedgerFile.Kept LedgerFile.Folded key_id device count (LedgerFile.Kept was) new one
-        → new ≡ LedgerFile.Folded left → AreClean D.Disk left.log left.db → outcomes D.Disk left.log left.db files
-        → PassInTurn files between last ⊎ PassInTurn (record files { log = [] }) between last
-        → IsFound (over_files {g = E.Disk}) last now
-        → FoldsFiles LedgerFile.Kept LedgerFile.Folded key_id device more (LedgerFile.Kept now) newer other
-        → newer ≡ LedgerFile.Folded rest → AreClean E.Disk rest.log rest.db
+    ensures { (key_id : List ℕ) (device : ℕ) (one other : Numbers) (start files last : Image) (left : Files D)
+        (rest : Files E) → FoldsFrom {g = D.Disk} LedgerFile.Kept LedgerFile.Folded key_id device start left one
+        → IsLeftOf D.Disk left files → PassesOn files last
+        → FoldsFrom {g = E.Disk} LedgerFile.Kept LedgerFile.Folded key_id device last rest other
         → one.lo + one.size ≤ other.lo }
 {}
 
