@@ -2,13 +2,10 @@
 //! records what happened.
 #![tactic(auto)]
 
-pub mod folder;
-pub mod hands;
 pub mod memory;
-pub mod streams;
+pub mod reader;
 pub mod told;
 
-pub use crate::hands::MemoryHandle;
-pub use crate::memory::MemoryFolder;
-pub use crate::streams::{MemoryReader, MemoryWriter, Pace, STEADY};
-pub use crate::told::Told;
+pub use crate::memory::{MemoryFolder, MemoryHandle};
+pub use crate::reader::{MemoryReader, Pace, STEADY};
+pub use crate::told::{Told, What};

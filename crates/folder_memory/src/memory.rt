@@ -1,69 +1,54 @@
-//! A folder in memory, whose calls fail where a test asks for it.
+//! A folder in memory, whose calls fail where a test asks for it. Contracts see neither its record nor its bytes.
 //!
-//! It records what happened, refused calls too, and gives the record to contracts. If memory is refused to a call or
-//! for its event, it forgets the record and keeps none from then on. So no recorded failure is due to a lack of memory.
-ghost use Rattle.std.specs.Prelude.{◌≡◌, ◌⊎◌, ◌↔◌, Err, ◌<◌, [], ◌∷◌, ◌++◌, None, Some, true, false, length};
-ghost use Rattle.std.specs.Prelude.{IfNone, IfOk, IfSome, OnErr, OnOk, map, option_map, position, bytes_eq};
-ghost use Rattle.std.specs.Prelude.{string_bytes};
-ghost use Rattle.folder_memory.specs.Memory.{KeepsOrForgets, bytes_of, event_of, file_view, memory_view};
-ghost use Rattle.folder_memory.specs.Memory.{after_call, fails_now, is_there, told_of, whole_of};
+//! It records what happened, refused calls too. If memory is refused to a call or for its event, it forgets all and
+//! records nothing from then on. So no recorded failure is due to a lack of memory.
 
-use crate::streams::{MemoryWriter, Pace, STEADY, Shown, new_writer};
-use crate::told::Told;
-use folder_core::FolderFault;
-use std::alloc::{AllocError, Global};
-use std::marker::Model;
+use crate::reader::{MemoryReader, Pace, STEADY};
+use crate::told::{Told, What};
+use command_core::SealingOutputs;
+use container_core::{Header, Key, Shape};
+use folder_core::{Folder, FolderFault, OpeningFolder, Outputs, Place, Whole};
+use io_core::{Failed, Sink};
+use io_memory::ToMemory;
+use ledger_core::Ledger;
+use reserve_core::{Fold, LedgerFile};
+use std::alloc::Global;
 
+// A file. An output has its bytes once it was finished, or could not be removed.
 #[derive(Drop)]
-pub(crate) enum Content {
-    // The bytes of a file that was put here or finished.
-    Whole(Vec<u8>),
-    // An output that wasn't finished.
-    Written(Shown),
-}
-
-#[derive(Drop)]
-pub(crate) struct File {
-    pub(crate) name: String,
-    pub(crate) content: Content,
+struct File {
+    name: String,
+    bytes: Vec<u8>,
 }
 
 /// A folder in memory.
 #[derive(Drop)]
 pub struct MemoryFolder {
-    pub(crate) alloc: Global,
-    pub(crate) files: Vec<File>,
+    alloc: Global,
+    files: Vec<File>,
     // How many calls succeed before one fails.
     refused: Option<u64>,
-    pub(crate) readers: Pace,
+    readers: Pace,
     writers: Pace,
     // Whether it can't tell the lengths of its files.
-    pub(crate) hides_lengths: bool,
+    hides_lengths: bool,
     // What happened, unless something was forgotten.
-    pub(crate) told: Option<Vec<Told>>,
-    // The output in hand, if one is. Contracts don't see it.
-    pub(crate) in_hand: Option<MemoryWriter>,
+    told: Option<Vec<Told>>,
+    in_hand: Option<MemoryHandle>,
 }
 
-impl Model for MemoryFolder {
-    ghost use Rattle.std.specs.Prelude.{map, option_map};
-    ghost use Rattle.folder_memory.specs.Memory.{AreAsTold, MemoryView, event_of, file_of, memory_view};
-
-    ghost Value = { MemoryView };
-
-    ghost view = { λ f. memory_view (map file_of f.files.items) f.refused f.readers f.writers
-        (option_map (λ told. map event_of told.items) f.told) };
-
-    // An output that was finished has the recorded bytes, until it is discarded.
-    ghost invariant = { λ f. AreAsTold (map file_of f.files.items)
-        (option_map (λ told. map event_of told.items) f.told) };
+/// An output that isn't in hand.
+#[derive(Drop)]
+pub struct MemoryHandle {
+    name: String,
+    writer: ToMemory,
 }
+
+impl Place for MemoryHandle {}
 
 impl MemoryFolder {
     /// Makes an empty folder, in which nothing fails.
-    pub fn new(alloc: Global) -> MemoryFolder
-        ensures { result ≡ memory_view [] None STEADY STEADY (Some []) }
-    {
+    pub fn new(alloc: Global) -> MemoryFolder {
         MemoryFolder {
             alloc,
             files: Vec::new(alloc),
@@ -76,186 +61,78 @@ impl MemoryFolder {
         }
     }
 
-    /// Puts a file of these bytes into the folder. `Exists` if the name is in use. It is no event.
-    pub fn put(&mut self, name: &str, bytes: &[u8]) -> Result<(), FolderFault>
-        ensures ok { OnOk result
-            (self.new ≡ record self.old { files = self.old.files ++ file_view name.now (Some bytes.now) ∷ [] }) }
-        ensures err { OnErr result (self.new ≡ self.old) }
-        ensures unnamed { OnOk result (is_there self.old.files name.now ≡ false) }
-        ensures exists { result ≡ Err FolderFault.Exists → is_there self.old.files name.now ≡ true }
-    {
-        match Vec::from_slice(self.alloc, bytes) {
-            Ok(bytes) => self.add(name, Content::Whole(bytes)),
-            Err(_) => Err(FolderFault::Failed),
+    /// Puts a file of these bytes into the folder. `false` if the name is in use, or memory is refused. It is no event.
+    pub fn put(&mut self, name: &str, bytes: &[u8]) -> bool {
+        if self.has(name) {
+            return false;
         }
+        let (Ok(name), Ok(bytes)) = (
+            String::from_str(self.alloc, name),
+            Vec::from_slice(self.alloc, bytes),
+        ) else {
+            return false;
+        };
+        self.files.push(File { name, bytes }).is_ok()
     }
 
     /// Makes the folder's call of this number fail, counted from 0 and from now on.
-    pub fn refuse_call(&mut self, number: u64)
-        ensures { self.new ≡ record self.old { refused = Some number } }
-    {
+    pub fn refuse_call(&mut self, number: u64) {
         self.refused = Some(number);
     }
 
     /// Sets how readers opened from now on move their bytes.
-    pub fn pace_readers(&mut self, pace: Pace)
-        ensures { self.new ≡ record self.old { readers = pace } }
-    {
+    pub fn pace_readers(&mut self, pace: Pace) {
         self.readers = pace;
     }
 
-    /// Sets how writers created from now on move their bytes.
-    pub fn pace_writers(&mut self, pace: Pace)
-        ensures { self.new ≡ record self.old { writers = pace } }
-    {
+    /// Sets how outputs created from now on take their bytes.
+    pub fn pace_writers(&mut self, pace: Pace) {
         self.writers = pace;
     }
 
     /// Makes the folder tell no length of a file from now on, as of pipes.
-    pub fn hide_lengths(&mut self)
-        ensures { self.new ≡ self.old }
-    {
+    pub fn hide_lengths(&mut self) {
         self.hides_lengths = true;
     }
 
     /// Returns whether there is a file of this name.
-    pub fn has(&self, name: &str) -> bool
-        ensures { result ≡ is_there self.now.files name.now }
-    {
-        place_of(self.files.as_slice(), name).is_some()
+    pub fn has(&self, name: &str) -> bool {
+        self.files.iter().any(|file| file.name.as_str() == name)
     }
 
-    /// Returns the bytes of a file. For an output that wasn't finished, these are the bytes shown so far.
-    pub fn bytes(&self, name: &str) -> Result<Vec<u8>, FolderFault>
-        ensures held { IfOk result (λ bytes.
-            IfSome (bytes_of self.now.files name.now) (λ whole. bytes.items ≡ whole)) }
-        ensures there { OnOk result (is_there self.now.files name.now ≡ true) }
-        // An output that was finished has the recorded bytes, until it is discarded.
-        ensures told { IfOk result (λ bytes. IfSome self.now.log (λ events.
-            IfSome (told_of events name.now) (λ whole. bytes.items ≡ whole))) }
-    {
-        let Some(place) = place_of(self.files.as_slice(), name) else {
-            return Err(FolderFault::Failed);
-        };
-        match copy_of(self.alloc, &self.files[place].content) {
-            Ok(bytes) => Ok(bytes),
-            Err(_) => Err(FolderFault::Failed),
+    /// Returns the bytes of a file, or `None` if there is no such file or memory is refused. An output that has not ended
+    /// has none.
+    pub fn bytes(&self, name: &str) -> Option<Vec<u8>> {
+        for file in &self.files {
+            if file.name.as_str() == name {
+                return Vec::from_slice(self.alloc, file.bytes.as_slice()).ok();
+            }
         }
+        None
     }
 
     /// Returns what happened so far, or `None` if something was forgotten.
-    pub fn told(&self) -> Option<&[Told]>
-        ensures { option_map (λ told. map event_of told.now) result ≡ self.now.log }
-    {
+    pub fn told(&self) -> Option<&[Told]> {
         match &self.told {
             Some(told) => Some(told.as_slice()),
             None => None,
         }
     }
 
-    fn add(&mut self, name: &str, content: Content) -> Result<(), FolderFault>
-        ensures ok { OnOk result
-            (self.new ≡ record self.old { files = self.old.files ++ file_view name.now (whole_of content) ∷ [] }) }
-        ensures err { OnErr result (self.new ≡ self.old) }
-        ensures unnamed { OnOk result (is_there self.old.files name.now ≡ false) }
-        ensures exists { result ≡ Err FolderFault.Exists → is_there self.old.files name.now ≡ true }
-    {
-        if self.has(name) {
-            return Err(FolderFault::Exists);
-        }
-        let Ok(name) = String::from_str(self.alloc, name) else {
-            return Err(FolderFault::Failed);
+    // Records what happened, or forgets all if memory for it was refused.
+    fn tell(&mut self, what: What, name: &str, bytes: &[u8]) {
+        let event = Told::of(self.alloc, what, name, bytes);
+        let is_kept = match (&mut self.told, event) {
+            (Some(told), Some(event)) => told.push(event).is_ok(),
+            _ => false,
         };
-        match self.files.push(File { name, content }) {
-            Ok(()) => Ok(()),
-            Err(_) => Err(FolderFault::Failed),
-        }
-    }
-
-    // The bytes of a file to be read, unless this call fails.
-    pub(crate) fn bytes_to_read(&mut self, name: &str) -> Option<Vec<u8>>
-        ensures same { self.new ≡ record self.old { refused = after_call self.old.refused; log = self.new.log } }
-        ensures told { IfSome result (λ bytes. self.new.log ≡ self.old.log) }
-        ensures forgot { KeepsOrForgets self.old.log self.new.log }
-        ensures held { IfSome result (λ bytes.
-            IfSome (bytes_of self.old.files name.now) (λ whole. bytes.items ≡ whole)) }
-        ensures there { IfSome result (λ bytes.
-            (is_there self.old.files name.now ≡ true) × (fails_now self.old.refused ≡ false)) }
-        ensures cause { IfNone result ((is_there self.old.files name.now ≡ false)
-            ⊎ (fails_now self.old.refused ≡ true) ⊎ (self.new.log ≡ None)) }
-    {
-        if self.is_refused() {
-            return None;
-        }
-        if !self.has(name) {
-            return None;
-        }
-        match self.bytes(name) {
-            Ok(bytes) => Some(bytes),
-            Err(_) => {
-                self.told = None;
-                None
-            }
-        }
-    }
-
-    // A new output in the folder, unless this call fails.
-    pub(crate) fn new_output(&mut self, name: &str) -> Result<MemoryWriter, FolderFault>
-        ensures empty { IfOk result (λ writer. (string_bytes writer.name ≡ name.now) × (writer.bytes.taken ≡ [])
-            × (writer.failures ≡ Some 0)) }
-        ensures added { OnOk result (self.new ≡ record self.old {
-          files = self.old.files ++ file_view name.now None ∷ [];
-          refused = after_call self.old.refused;
-        }) }
-        ensures kept { OnErr result
-            (self.new ≡ record self.old { refused = after_call self.old.refused; log = self.new.log }) }
-        ensures forgot { KeepsOrForgets self.old.log self.new.log }
-        ensures unnamed { OnOk result
-            ((is_there self.old.files name.now ≡ false) × (fails_now self.old.refused ≡ false)) }
-        ensures exists { (result ≡ Err FolderFault.Exists)
-            ↔ ((is_there self.old.files name.now ≡ true) × (fails_now self.old.refused ≡ false)) }
-        ensures cause { result ≡ Err FolderFault.Failed → (fails_now self.old.refused ≡ true) ⊎ (self.new.log ≡ None) }
-    {
-        if self.is_refused() {
-            return Err(FolderFault::Failed);
-        }
-        if self.has(name) {
-            return Err(FolderFault::Exists);
-        }
-        match self.added(name) {
-            Some(writer) => Ok(writer),
-            None => {
-                self.told = None;
-                Err(FolderFault::Failed)
-            }
-        }
-    }
-
-    // The writer of an output that was added, unless memory is refused or the name is in use.
-    fn added(&mut self, name: &str) -> Option<MemoryWriter>
-        ensures empty { IfSome result (λ writer. (string_bytes writer.name ≡ name.now) × (writer.bytes.taken ≡ [])
-            × (writer.failures ≡ Some 0)) }
-        ensures some { IfSome result (λ writer.
-            self.new ≡ record self.old { files = self.old.files ++ file_view name.now None ∷ [] }) }
-        ensures none { IfNone result (self.new ≡ self.old) }
-    {
-        let Ok(writer) = new_writer(self.alloc, name, self.writers) else {
-            return None;
-        };
-        let Ok(shown) = writer.shown.clone() else {
-            return None;
-        };
-        match self.add(name, Content::Written(shown)) {
-            Ok(()) => Some(writer),
-            Err(_) => None,
+        if !is_kept {
+            self.told = None;
         }
     }
 
     // Whether this call is the one that fails.
-    pub(crate) fn is_refused(&mut self) -> bool
-        ensures value { result ≡ fails_now self.old.refused }
-        ensures counted { self.new ≡ record self.old { refused = after_call self.old.refused } }
-    {
+    fn is_refused(&mut self) -> bool {
         match self.refused {
             None => false,
             Some(0) => {
@@ -268,23 +145,178 @@ impl MemoryFolder {
             }
         }
     }
-}
 
-pub(crate) fn place_of(files: &[File], name: &str) -> Option<usize>
-    ensures bound { IfSome result (λ i. i < length files.now) }
-    ensures place { result ≡ position (λ file. bytes_eq (string_bytes file.name) name.now) files.now }
-{
-    files.iter().position(|file| file.name.as_str() == name)
-}
-
-fn copy_of(alloc: Global, content: &Content) -> Result<Vec<u8>, AllocError>
-    ensures { IfOk result (λ bytes. IfSome (whole_of content.now) (λ whole. bytes.items ≡ whole)) }
-{
-    match content {
-        Content::Whole(bytes) => Vec::from_slice(alloc, bytes.as_slice()),
-        Content::Written(shown) => match shown.try_borrow() {
-            Ok(shown) => Vec::from_slice(alloc, shown.as_slice()),
-            Err(_) => Err(AllocError),
-        },
+    // The bytes of a file to be read, unless this call fails.
+    fn bytes_to_read(&mut self, name: &str) -> Option<Vec<u8>> {
+        if self.is_refused() || !self.has(name) {
+            return None;
+        }
+        let bytes = self.bytes(name);
+        if bytes.is_none() {
+            self.told = None;
+        }
+        bytes
     }
+
+    // The output of a new file, unless memory is refused.
+    fn new_output(&mut self, name: &str) -> Option<MemoryHandle> {
+        let Pace { most, schedule } = self.writers;
+        let writer = ToMemory::new(self.alloc, 0, most, schedule).ok()?;
+        let own = String::from_str(self.alloc, name).ok()?;
+        if self.put(name, &[]) {
+            Some(MemoryHandle { name: own, writer })
+        } else {
+            None
+        }
+    }
+
+    // Gives a file the bytes of its output, if it is there and there is memory for them.
+    fn has_kept(&mut self, output: &MemoryHandle) -> bool {
+        let Ok(bytes) = Vec::from_slice(self.alloc, output.writer.bytes()) else {
+            self.told = None;
+            return false;
+        };
+        for file in &mut self.files {
+            if file.name.as_str() == output.name.as_str() {
+                file.bytes = bytes;
+                return true;
+            }
+        }
+        false
+    }
+
+    // Gives an output up, and tries to remove it. It is recorded whether or not that succeeds.
+    fn give_up(&mut self, output: MemoryHandle) -> Result<(), Failed> {
+        let name = output.name.as_str();
+        let is_refused = self.is_refused();
+        self.tell(What::Discarded, name, output.writer.bytes());
+        if is_refused {
+            let _ = self.has_kept(&output);
+            return Err(Failed);
+        }
+        self.files.retain(|file| file.name.as_str() != name);
+        Ok(())
+    }
+}
+
+impl Outputs for MemoryFolder {
+    type Handle = MemoryHandle;
+
+    fn allow_container(&mut self, output: MemoryHandle, _number: u32, _shape: &Shape) {
+        self.in_hand = Some(output);
+    }
+
+    fn write(&mut self, bytes: &[u8]) -> Result<usize, Failed> {
+        match &mut self.in_hand {
+            Some(output) => Sink::write(&mut output.writer, bytes),
+            None => Err(Failed),
+        }
+    }
+
+    fn finish(&mut self) -> Result<(), Failed> {
+        let Some(output) = self.in_hand.take() else {
+            return Err(Failed);
+        };
+        if self.is_refused() || !self.has_kept(&output) {
+            self.in_hand = Some(output);
+            return Err(Failed);
+        }
+        self.tell(What::Finished, output.name.as_str(), output.writer.bytes());
+        Ok(())
+    }
+
+    fn discard(&mut self) -> Result<(), Failed> {
+        match self.in_hand.take() {
+            Some(output) => self.give_up(output),
+            None => Err(Failed),
+        }
+    }
+
+    ghost sound = { λ _. ∣ (tt, tt) ∣₁ };
+}
+
+impl Folder for MemoryFolder {
+    type Reader = MemoryReader;
+
+    fn open(&mut self, name: &str) -> Result<MemoryReader, Failed> {
+        match self.bytes_to_read(name) {
+            Some(bytes) => {
+                self.tell(What::Reading, name, bytes.as_slice());
+                Ok(MemoryReader::new(bytes, self.readers))
+            }
+            None => {
+                self.tell(What::Unread, name, &[]);
+                Err(Failed)
+            }
+        }
+    }
+
+    fn length(&self, reader: &MemoryReader) -> Option<u64> {
+        if self.hides_lengths {
+            return None;
+        }
+        Some((reader.bytes.len() - reader.at) as u64)
+    }
+
+    fn can_repeat(&self, _reader: &MemoryReader) -> bool {
+        true
+    }
+
+    fn again(&mut self, name: &str, reader: &mut MemoryReader) -> Result<(), Failed> {
+        let is_refused = self.is_refused();
+        self.tell(What::Rewound(is_refused), name, &[]);
+        if is_refused {
+            reader.failed = true;
+            return Err(Failed);
+        }
+        reader.at = 0;
+        self.tell(What::Reading, name, reader.bytes.as_slice());
+        Ok(())
+    }
+
+    fn close(&mut self, name: &str, reader: MemoryReader) {
+        self.tell(What::Closed(reader.failed), name, &[]);
+    }
+
+    fn create(&mut self, name: &str) -> Result<MemoryHandle, FolderFault> {
+        let fault = if self.is_refused() {
+            FolderFault::Failed
+        } else if self.has(name) {
+            FolderFault::Exists
+        } else if let Some(output) = self.new_output(name) {
+            self.tell(What::Created, name, &[]);
+            return Ok(output);
+        } else {
+            self.told = None;
+            FolderFault::Failed
+        };
+        self.tell(What::Refused(fault), name, &[]);
+        Err(fault)
+    }
+
+    fn abandon(&mut self, output: MemoryHandle) -> Result<(), Failed> {
+        self.give_up(output)
+    }
+}
+
+// What an output may hold is proof only. Nothing happens at run time but that it is in hand.
+impl OpeningFolder for MemoryFolder {
+    fn allow_plain<N: Whole>(&mut self, output: MemoryHandle) {
+        self.in_hand = Some(output);
+    }
+
+    fn allow_checked(
+        &mut self,
+        output: MemoryHandle,
+        _key: &Key,
+        _header: &Header,
+        _reader: &MemoryReader,
+    ) {
+        self.in_hand = Some(output);
+    }
+}
+
+// It has no record that gets a key.
+impl SealingOutputs for MemoryFolder {
+    fn start<S: Fold>(&mut self, _file: &LedgerFile<S>, _key: &Key, _ledger: &Ledger) {}
 }

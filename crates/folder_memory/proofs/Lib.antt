@@ -1,4 +1,0 @@
-mod Ends
-mod Files
-mod Positions
-mod Truth
