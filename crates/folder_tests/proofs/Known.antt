@@ -1,9 +1,10 @@
 -- The record of a folder in memory, unless it was forgotten.
-use Rattle.std.proofs.Common.{◌≡◌, ◌∙◌, ℕ, Bool, true, false, List, [], Option, None, Some, MatchOption, refl, sym, ap, subst}
-use Rattle.std.specs.Prelude.{IfSome}
-use Rattle.folder_core.specs.Record.{Checked, Closed, Entry, GivenUp, RunRecord, State}
-use Rattle.folder_core.specs.Changes.{Becomes, IsUnstarted, MayHold, Tells, closed_at, started, with_entry}
-use Rattle.folder_core.proofs.Calls.{Keeps, becomes_kept, close_call, event_call, idle_call}
+use Rattle.std.proofs.Common.{◌≡◌, ◌∙◌, ℕ, Bool, true, false, List, [], ◌∷◌, ◌++◌, Option, None, Some, MatchOption, refl, sym, ap, subst}
+use Rattle.std.specs.Prelude.{IfSome, length, slice_get}
+use Rattle.folder_core.specs.Record.{Checked, Closed, Content, Created, Entry, GivenUp, RunRecord, State}
+use Rattle.folder_core.specs.Changes.{Becomes, IsFresh, IsIdle, IsNewStream, IsUnstarted, MayHold, Tells, allowed, closed_at, new_output, started, stream_name, with_entry}
+use Rattle.folder_core.proofs.Calls.{Keeps, becomes_kept, close_call, event_call, hold_call, idle_call}
+use Rattle.folder_core.proofs.Entries.{get_end}
 use Rattle.folder_core.proofs.Started.{started_sound}
 use Rattle.folder_core.specs.Record.{IsSoundWith}
 use Rattle.journal_core.specs.Range.{Numbers}
@@ -59,6 +60,33 @@ closed_tells name failures None before after is tells = subst (Tells (Closed nam
 closed_tells name failures (Some e) before None is tells = tt
 closed_tells name failures (Some e) before (Some r) (n, known, is) tells =
     (n, known, subst (λ y. Becomes (with_entry y) before (Some r)) is tells)
+
+-- a stream was created
+pub new_stream_at : (place : ℕ) (before after : Option RunRecord) → IsIdle before
+    → Becomes (with_entry (Created (new_output stream_name))) before after
+    → IfSome before (λ was. place ≡ length was.entries) → IfSome after (IsNewStream place)
+new_stream_at place before None idle is at = tt
+new_stream_at place None (Some r) idle (was, known, is) at = absurd (cc)
+new_stream_at place (Some b) (Some r) idle (was, known, is) at =
+    let same : was ≡ b = cc in
+    let all : r ≡ with_entry (Created (new_output stream_name)) b = is ∙ ap (with_entry (Created (new_output stream_name))) same in
+    subst (IsNewStream place) (sym all) (
+      record {
+        name = stream_name;
+        idle = idle;
+        there = ap (slice_get (b.entries ++ Created (new_output stream_name) ∷ [])) at
+            ∙ get_end b.entries (Created (new_output stream_name));
+      },
+      refl,
+    )
+
+-- an output was taken in hand, which took nothing; or all is forgotten
+pub hold_kept : (before after : Option RunRecord) (held taken : List ℕ) (failures : Option ℕ) (n : ℕ) (content : Content)
+    → IfSome before (MayHold n content) → Becomes (allowed n content) before after → IsFresh after (Some taken) failures
+    → Keeps before held → Keeps after taken
+hold_kept before None held taken failures n content may is fresh keeps = ∣ (tt, tt) ∣₁
+hold_kept before (Some r) held taken failures n content may is fresh keeps =
+    let none : taken ≡ [] = cc in hold_call before (Some r) held taken n content may is none keeps
 
 -- ---- what was in hand was closed, or all is forgotten
 

@@ -1,9 +1,8 @@
-//! A folder in memory whose record is what it did; an engine that seals into the output in hand of any folder; and tests.
+//! A folder in memory whose record is what it did, and tests.
 //!
 //! Begin with `memory`. `openings` runs the commands that open and verify over it.
 #![tactic(auto)]
 
-pub mod engines;
 pub mod keyed;
 pub mod memory;
 pub mod note;
@@ -14,7 +13,6 @@ mod outputs;
 pub mod pages;
 pub mod reader;
 
-pub use crate::engines::fill_sealed;
 pub use crate::memory::{MemoryFolder, MemoryHandle};
 pub use crate::pages::Limits;
 pub use crate::reader::MemoryReader;

@@ -1,8 +1,8 @@
 //! The folder in memory.
-ghost use Rattle.std.specs.Prelude.{◌≡◌, [], IfSome, Some};
+ghost use Rattle.std.specs.Prelude.{◌≡◌, IfSome, Some};
 ghost use Rattle.folder_core.specs.Record.{IsSoundWith};
 ghost use Rattle.journal_core.specs.Range.{range_of};
-ghost use Rattle.folder_core.specs.Changes.{allowed};
+ghost use Rattle.folder_core.specs.Changes.{IsFresh, IsIdle, IsKept, IsNewStream, IsUnstarted, allowed};
 ghost use Rattle.folder_tests.specs.Memory.{fresh, record_of, rest_of, unkeyed};
 
 use crate::note::Naming;
@@ -11,7 +11,7 @@ use crate::pages::{
     unrepeated,
 };
 use crate::reader::MemoryReader;
-use command_core::SealingFolder;
+use command_core::SealingOutputs;
 use container_core::{Header, Key, Shape};
 use folder_core::{Folder, FolderFault, OpeningFolder, Outputs, Place, Whole};
 use io_core::Failed;
@@ -48,7 +48,9 @@ impl MemoryFolder {
 
     /// A folder with these files, for a run that has no key yet. `None` if memory is refused.
     pub fn unkeyed(alloc: Global, files: &[(&str, &[u8])]) -> Option<MemoryFolder>
-        ensures { IfSome result (λ folder. rest_of folder.pages ≡ Some unkeyed) }
+        ensures rest { IfSome result (λ folder. rest_of folder.pages ≡ Some unkeyed) }
+        ensures fresh { IfSome result (λ folder.
+            IsFresh (rest_of folder.pages) (Some folder.pages.taken.items) folder.pages.failures) }
     {
         let pages = Pages::new(alloc, Under::Unkeyed);
         let mut folder = MemoryFolder { pages };
@@ -61,7 +63,9 @@ impl MemoryFolder {
 
     // Puts files into the folder, as if they had been there before the run. `false` if memory is refused.
     fn has_put(&mut self, files: &[(&str, &[u8])]) -> bool
-        ensures { rest_of self.new.pages ≡ rest_of self.old.pages }
+        ensures rest { rest_of self.new.pages ≡ rest_of self.old.pages }
+        ensures taken { self.new.pages.taken.items ≡ self.old.pages.taken.items }
+        ensures failures { self.new.pages.failures ≡ self.old.pages.failures }
     {
         for (name, bytes) in files {
             if !self.put(name, bytes) {
@@ -72,14 +76,18 @@ impl MemoryFolder {
     }
 
     fn put(&mut self, name: &str, bytes: &[u8]) -> bool
-        ensures { rest_of self.new.pages ≡ rest_of self.old.pages }
+        ensures rest { rest_of self.new.pages ≡ rest_of self.old.pages }
+        ensures taken { self.new.pages.taken.items ≡ self.old.pages.taken.items }
+        ensures failures { self.new.pages.failures ≡ self.old.pages.failures }
     {
         self.pages.put(name, bytes)
     }
 
     /// From now on calls fail past these limits.
     pub fn limit(&mut self, limits: Limits)
-        ensures { rest_of self.new.pages ≡ rest_of self.old.pages }
+        ensures rest { rest_of self.new.pages ≡ rest_of self.old.pages }
+        ensures taken { self.new.pages.taken.items ≡ self.old.pages.taken.items }
+        ensures failures { self.new.pages.failures ≡ self.old.pages.failures }
     {
         self.pages.limits = limits;
     }
@@ -87,6 +95,27 @@ impl MemoryFolder {
     /// Returns the bytes of the file of this name that was there, or of the finished output.
     pub fn bytes(&self, name: &str) -> Option<Vec<u8>> {
         self.pages.bytes(name)
+    }
+
+    /// Returns what the output in hand took.
+    pub fn taken(&self) -> &[u8] {
+        self.pages.taken.as_slice()
+    }
+
+    /// Creates an output that is a stream. `None` if memory is refused, or there is one.
+    pub fn new_stream(&mut self) -> Option<MemoryHandle>
+        requires idle { IsIdle (rest_of self.old.pages) }
+        requires fresh { IsFresh (rest_of self.old.pages) (Some self.old.pages.taken.items) self.old.pages.failures }
+        ensures new { IfSome result (λ output. IfSome (rest_of self.new.pages) (IsNewStream output.place)) }
+        ensures unstarted { IfSome (rest_of self.old.pages) IsUnstarted
+            → IfSome result (λ _. IfSome (rest_of self.new.pages) IsUnstarted) }
+        ensures fresh { IfSome result (λ _.
+            IsFresh (rest_of self.new.pages) (Some self.new.pages.taken.items) self.new.pages.failures) }
+    {
+        match self.create("-") {
+            Ok(output) => Some(output),
+            Err(_) => None,
+        }
     }
 }
 
@@ -216,7 +245,7 @@ impl OpeningFolder for MemoryFolder {
     }
 }
 
-impl SealingFolder for MemoryFolder {
+impl SealingOutputs for MemoryFolder {
     fn start<S: Fold>(&mut self, _file: &LedgerFile<S>, key: &Key, ledger: &Ledger) {
         self.pages.start(key, ledger);
     }
@@ -226,8 +255,9 @@ impl SealingFolder for MemoryFolder {
 fn allow_number<N: Naming>(pages: &mut Pages, place: usize, _number: u32, _shape: &Shape)
     ensures told { pages.new.told ≡ pages.old.told }
     ensures allowed { record_of pages.new ≡ allowed place N.content (record_of pages.old) }
-    ensures taken { pages.new.taken.items ≡ [] }
-    ensures failures { pages.new.failures ≡ Some 0 }
+    ensures fresh { IsFresh (rest_of pages.new) (Some pages.new.taken.items) pages.new.failures }
+    ensures kept { IsKept (rest_of pages.new) (Some pages.old.taken.items) (Some pages.new.taken.items)
+        pages.old.failures pages.new.failures }
 {
     pages.allow::<N>(place);
 }
@@ -242,8 +272,9 @@ fn allow_opened<N: Naming>(
 )
     ensures told { pages.new.told ≡ pages.old.told }
     ensures allowed { record_of pages.new ≡ allowed place N.content (record_of pages.old) }
-    ensures taken { pages.new.taken.items ≡ [] }
-    ensures failures { pages.new.failures ≡ Some 0 }
+    ensures fresh { IsFresh (rest_of pages.new) (Some pages.new.taken.items) pages.new.failures }
+    ensures kept { IsKept (rest_of pages.new) (Some pages.old.taken.items) (Some pages.new.taken.items)
+        pages.old.failures pages.new.failures }
 {
     pages.allow::<N>(place);
 }

@@ -1,11 +1,12 @@
-//! A container in a folder in memory is opened in each of the two ways, and verified, whichever call fails.
-ghost use Rattle.std.specs.Prelude.{◌≡◌, ◌<◌, ◌^◌, IfSome, length};
-ghost use Rattle.folder_core.specs.Changes.{IsIdle};
+//! A container in a folder in memory is opened in each of the two ways, and to a stream, and verified, whichever call
+//! fails.
+ghost use Rattle.std.specs.Prelude.{◌≡◌, ◌<◌, ◌^◌, IfSome, Some, length};
+ghost use Rattle.folder_core.specs.Changes.{IsFresh, IsIdle};
 ghost use Rattle.folder_tests.specs.Memory.{rest_of};
 
 use crate::memory::MemoryFolder;
 use crate::pages::Limits;
-use command_core::{OpenOptions, Outs, open_all, verify_all};
+use command_core::{OpenOptions, Outs, UnpipeOptions, open_all, unpipe_all, verify_all};
 use container_core::{Key, Shape, seal};
 use folder_core::{Folder, Outputs, finish_or_discard};
 use io_memory::{Schedule, ToMemory};
@@ -37,6 +38,8 @@ const READ_FAILED: &str = "failed a.stm: read failed\n";
 // A folder in which `a.stm` is a container of that plaintext under this key, within these limits.
 pub(crate) fn folder_within(alloc: Global, secret: [u8; 32], limits: Limits) -> Option<MemoryFolder>
     ensures idle { IfSome result (λ folder. IsIdle (rest_of folder.pages)) }
+    ensures fresh { IfSome result (λ folder.
+        IsFresh (rest_of folder.pages) (Some folder.pages.taken.items) folder.pages.failures) }
 {
     let key = Key::new(secret);
     let shape = Shape::one();
@@ -146,14 +149,73 @@ fn prints<T: Threads + Clock + Sync>(
     is_output && is_printed
 }
 
+// The same of `unpipe_all`, and whether a new stream took the plaintext exactly where the file was opened.
+fn unpipes<T: Threads + Clock + Sync>(
+    rt: &T,
+    alloc: Global,
+    secret: u8,
+    limits: Limits,
+    line: &str,
+) -> bool {
+    let Some(mut folder) = folder_within(alloc, [7; 32], limits) else {
+        return false;
+    };
+    let Some(stream) = folder.new_stream() else {
+        return false;
+    };
+    let Ok(mut lines) = ToMemory::new(alloc, 64, 64, Schedule::Never) else {
+        return false;
+    };
+    let key = Key::new([secret; 32]);
+    let options = UnpipeOptions {
+        workers: 2,
+        max_bytes: 1 << 20,
+        label: None,
+    };
+    let status = unpipe_all(
+        rt,
+        alloc,
+        &key,
+        &mut folder,
+        "a.stm",
+        stream,
+        &options,
+        &mut lines,
+    );
+    let written = if line == OPENED { PLAIN } else { b"" };
+    lines.bytes() == line.as_bytes()
+        && status == u8::from(line.starts_with("failed"))
+        && folder.taken() == written
+}
+
+// Whether the file is opened so, to a file or to a stream.
+fn opens<T: Threads + Clock + Sync>(
+    rt: &T,
+    alloc: Global,
+    to_stream: bool,
+    limits: Limits,
+    line: &str,
+) -> bool {
+    if to_stream {
+        unpipes(rt, alloc, 7, limits, line)
+    } else {
+        prints(rt, alloc, &OPEN, limits, line)
+    }
+}
+
 // How many reads an opening takes. Where fewer succeed its line says that a read failed; `None` if it says something else.
-fn reads_of<T: Threads + Clock + Sync>(rt: &T, alloc: Global, limits: Limits) -> Option<u64> {
+fn reads_of<T: Threads + Clock + Sync>(
+    rt: &T,
+    alloc: Global,
+    to_stream: bool,
+    limits: Limits,
+) -> Option<u64> {
     for reads in 0..16u64 {
         let limits = Limits { reads, ..limits };
-        if prints(rt, alloc, &OPEN, limits, OPENED) {
+        if opens(rt, alloc, to_stream, limits, OPENED) {
             return Some(reads);
         }
-        if !prints(rt, alloc, &OPEN, limits, READ_FAILED) {
+        if !opens(rt, alloc, to_stream, limits, READ_FAILED) {
             return None;
         }
     }
@@ -268,12 +330,32 @@ fn a_failed_write_or_end_leaves_no_output(rt: HostRuntime) {
 fn a_failed_read_leaves_no_output(rt: HostRuntime) {
     let turns = Limits { turns: 0, ..NONE };
     assert!(rt; prints(&rt, rt.alloc(), &OPEN, turns, READ_FAILED));
-    let (Some(once), Some(twice)) = (
-        reads_of(&rt, rt.alloc(), ONCE),
-        reads_of(&rt, rt.alloc(), NONE),
+    let (Some(once), Some(twice), Some(to_stream)) = (
+        reads_of(&rt, rt.alloc(), false, ONCE),
+        reads_of(&rt, rt.alloc(), false, NONE),
+        reads_of(&rt, rt.alloc(), true, ONCE),
     ) else {
         panic!(rt; "an opening fails in another way");
     };
-    // The second reading fails too.
-    assert!(rt; 0 < once && once < twice);
+    // The second reading fails too. To a stream there always is one.
+    assert!(rt; 0 < once && once < twice && to_stream == twice);
+}
+
+// A stream has no end that could fail.
+#[test]
+fn a_stream_takes_the_plaintext(rt: HostRuntime) {
+    let ends = Limits { ends: 0, ..NONE };
+    for limits in [NONE, ONCE, ends] {
+        assert!(rt; unpipes(&rt, rt.alloc(), 7, limits, OPENED));
+    }
+}
+
+#[test]
+fn a_stream_takes_nothing_of_what_does_not_open(rt: HostRuntime) {
+    let line = "failed a.stm: sealed under another key\n";
+    assert!(rt; unpipes(&rt, rt.alloc(), 8, NONE, line));
+    let turns = Limits { turns: 0, ..NONE };
+    assert!(rt; unpipes(&rt, rt.alloc(), 7, turns, "failed a.stm: spool failed\n"));
+    let writes = Limits { writes: 0, ..NONE };
+    assert!(rt; unpipes(&rt, rt.alloc(), 7, writes, "failed a.stm: write failed\n"));
 }

@@ -1,11 +1,10 @@
 //! What a folder in memory holds: its entries, and what the output in hand took.
 ghost use Rattle.std.specs.Prelude.{◌≡◌, ◌⊎◌, ◌++◌, ℕ, true, false, Some, None, [], length, IfOk, OnErr, IfSome, map};
-ghost use Rattle.std.specs.Prelude.{MatchOption, is_err, not, string_bytes};
+ghost use Rattle.std.specs.Prelude.{MatchOption, is_err, not};
 ghost use Rattle.io_core.specs.Streams.{counted};
-ghost use Rattle.folder_core.specs.Record.{RunRecord};
 ghost use Rattle.folder_core.specs.Record as run;
 ghost use Rattle.folder_core.specs.Changes.{allowed, change, changed, closed_at, new_output, set_closed, set_content};
-ghost use Rattle.folder_core.specs.Changes.{Becomes, started, with_entry};
+ghost use Rattle.folder_core.specs.Changes.{Becomes, IsFresh, IsKept, started};
 ghost use Rattle.folder_tests.specs.Memory.{IsClosing, Notes, entry_of, record_of, rest_of, state_of, under_of};
 
 use crate::keyed::KeyNote;
@@ -158,17 +157,21 @@ impl Pages {
         };
     }
 
-    // The output at this place is in hand, with the content that is named.
+    // The output at this place is in hand, with the content that is named. It took nothing; if all was forgotten, what was
+    // taken before counts on.
     pub(crate) fn allow<N: Naming>(&mut self, place: usize)
         ensures told { self.new.told ≡ self.old.told }
         ensures allowed { record_of self.new ≡ allowed place N.content (record_of self.old) }
-        ensures taken { self.new.taken.items ≡ [] }
-        ensures failures { self.new.failures ≡ Some 0 }
+        ensures fresh { IsFresh (rest_of self.new) (Some self.new.taken.items) self.new.failures }
+        ensures kept { IsKept (rest_of self.new) (Some self.old.taken.items) (Some self.new.taken.items)
+            self.old.failures self.new.failures }
     {
         hold::<N>(&mut self.entries, place);
         self.in_hand = Some(place);
-        self.taken = Vec::new(self.alloc);
-        self.failures = Some(0);
+        if self.told {
+            self.taken = Vec::new(self.alloc);
+            self.failures = Some(0);
+        }
     }
 
     // One more call failed of those that write the output in hand.
@@ -255,6 +258,7 @@ impl Pages {
     pub(crate) fn start(&mut self, key: &Key, ledger: &Ledger)
         ensures started { Becomes (started key.now ledger.now.terms.range) (rest_of self.old) (rest_of self.new) }
         ensures taken { self.new.taken ≡ self.old.taken }
+        ensures failures { self.new.failures ≡ self.old.failures }
     {
         match KeyNote::new(self.alloc, key, ledger) {
             Some(note) => self.under = Under::Given(note),
@@ -266,6 +270,7 @@ impl Pages {
     pub(crate) fn put(&mut self, name: &str, bytes: &[u8]) -> bool
         ensures rest { rest_of self.new ≡ rest_of self.old }
         ensures taken { self.new.taken ≡ self.old.taken }
+        ensures failures { self.new.failures ≡ self.old.failures }
     {
         let Ok(name) = String::from_str(self.alloc, name) else {
             return false;

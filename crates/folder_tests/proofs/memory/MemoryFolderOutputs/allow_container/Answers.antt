@@ -1,11 +1,10 @@
-use Rattle.folder_core.proofs.Calls.{hold_call}
-use Rattle.folder_tests.proofs.Known.{becomes_by}
+use Rattle.folder_tests.proofs.Known.{becomes_by, hold_kept}
 use Rattle.folder_tests.proofs.memory.MemoryFolderOutputs.allow_container.Goals as goal
 
 pub invariant_of-self : goal.invariant_of-self
 invariant_of-self c = record {
-  sound = hold_call _ _ _ _ _ _ c.requires.may
-      (becomes_by _ _ _ _ _ c.allow_number.ensures.told c.allow_number.ensures.allowed) c.allow_number.ensures.taken
+  sound = hold_kept _ _ _ _ _ _ _ c.requires.may
+      (becomes_by _ _ _ _ _ c.allow_number.ensures.told c.allow_number.ensures.allowed) c.allow_number.ensures.fresh
       c.args.self.now.sound;
 }
 

@@ -1,6 +1,6 @@
 use Rattle.std.proofs.Common.{ap}
 use Rattle.folder_tests.proofs.Known.{started_kept}
-use Rattle.folder_tests.proofs.memory.MemoryFolderSealingFolder.start.Goals as goal
+use Rattle.folder_tests.proofs.memory.MemoryFolderSealingOutputs.start.Goals as goal
 
 pub invariant_of-self : goal.invariant_of-self
 invariant_of-self g c = record {
