@@ -1,21 +1,19 @@
 //! The file system as a folder.
-ghost use Rattle.std.specs.Prelude.{◌≡◌, ◌≢◌, Err, true, false};
+ghost use Rattle.std.specs.Prelude.{◌≡◌, true, false};
 
 use crate::cause::Cause;
 use crate::folders::{NewFolders, PRIVATE_FOLDER, SHARED_FOLDER, take_way};
 use crate::input::{FileInput, OneOf, Opened, open_known};
 use crate::names::{Names, Target, path_of, path_shown};
-use crate::outputs::{self, Output, Outputs, PRIVATE, SHARED};
+use crate::outputs::{self, NewOutputs, Output, PRIVATE, SHARED};
 use crate::own::{
     FileId, KeptOut, OwnFiles, OwnPaths, STANDARD_INPUT, STANDARD_OUTPUT, regular_at,
 };
 use crate::progress::{Named, Progress, explain_file};
 use crate::spool::FileSpool;
-use command_core::Folder;
 use either::Either;
-use folder_core::{FileReader, FolderFault, Spooled};
-use io_core::Failed;
-use ledger_core::ToWrite;
+use folder_core::{FileReader, Folder, FolderFault, Spooled};
+use io_core::{Failed, ToWrite};
 use std::alloc::Global;
 use std::fs::File;
 use std::io::Read;
@@ -79,7 +77,8 @@ pub struct SystemFiles<'p, 'r, R: Files + AllocGlobal + Clock + Eprint, I: Read 
     warns_of_changes: bool,
     // The name of the FILE that was opened last, if causes are printed.
     file: Option<String>,
-    outputs: Outputs,
+    // How outputs are made.
+    new_outputs: NewOutputs,
     // The output in hand, if one is.
     pub(crate) in_hand: Option<ToWrite<Output<R::File>>>,
     // How folders below the target's are made.
@@ -124,7 +123,7 @@ impl<'p, 'r, R: Files + AllocGlobal + Clock + Eprint, I: Read + Drop> SystemFile
             causes: options.causes,
             warns_of_changes: options.warns_of_changes,
             file: None,
-            outputs: Outputs::new(rt),
+            new_outputs: NewOutputs::new(rt),
             in_hand: None,
             new_folders: NewFolders {
                 mode: if options.private {
@@ -275,28 +274,26 @@ impl<'p, 'r, R: Files + AllocGlobal + Clock + Eprint, I: Read + Drop> SystemFile
         }
     }
 
-    // The fault of the output of this FILE, which can't be created. Why is printed, if causes are.
-    fn refused(&self, file: &Option<String>, cause: Cause) -> FolderFault {
-        if let Some(name) = file {
-            self.explain(name.as_str(), cause);
-        }
-        cause.fault()
+    // Creates an output of this name. `file` is the name of its FILE, if causes are printed.
+    fn new_output(
+        &mut self,
+        name: &str,
+        file: &mut Option<String>,
+    ) -> Result<Output<R::File>, Cause> {
+        let Some(path) = path_of(self.rt.alloc(), self.output_names, self.target, name) else {
+            return Err(Cause::NoOutputName);
+        };
+        take_way(self.rt, self.target, path.as_str(), Some(self.new_folders))?;
+        let (sync, mode) = (self.sync, self.mode);
+        self.new_outputs.create(self.rt, path, sync, mode, file)
     }
 
-    // Gives an output up, and tries to remove it.
+    // Gives an output up, and tries to remove it. Why is printed, if it couldn't be written or finished and causes are.
     pub(crate) fn give_up_output(&self, output: Output<R::File>) -> Result<(), Failed> {
-        self.explain_output(&output);
-        match outputs::discard(self.rt, output) {
-            Ok(()) => Ok(()),
-            Err(_) => Err(Failed),
-        }
-    }
-
-    // Prints why this output is given up, if it couldn't be written or finished and causes are printed.
-    fn explain_output(&self, output: &Output<R::File>) {
         if let Some((name, cause)) = output.why() {
             explain_file(self.rt, self.progress, name, cause);
         }
+        outputs::discard(self.rt, output)
     }
 }
 
@@ -324,12 +321,10 @@ fn stand_in<R: Files>(rt: &R) -> Option<R::File> {
 }
 
 /// Opens a file for reading. A directory is refused.
-pub fn open_unbuffered<R: Files>(rt: &R, name: &str) -> Result<R::File, FolderFault>
-    ensures fault { result ≢ Err FolderFault.Exists }
-{
+pub fn open_unbuffered<R: Files>(rt: &R, name: &str) -> Result<R::File, Failed> {
     match open_known(rt, name) {
         Ok(opened) => Ok(opened.file),
-        Err(_) => Err(FolderFault::Failed),
+        Err(_) => Err(Failed),
     }
 }
 
@@ -346,10 +341,7 @@ impl<'p, 'r, R: Files + AllocGlobal + Clock + Eprint, I: Read + Drop> Folder
     for SystemFiles<'p, 'r, R, I> {
     type Reader = SystemReader<'p, 'r, R, I>;
 
-    // Needs no buffer: each call that writes an output passes one chunk or more.
-    type Writer = ToWrite<Output<R::File>>;
-
-    fn open(&mut self, name: &str) -> Result<Self::Reader, FolderFault> {
+    fn open(&mut self, name: &str) -> Result<Self::Reader, Failed> {
         match self.reader_at(name) {
             Ok(reader) => {
                 self.file = self.copied(name);
@@ -357,7 +349,7 @@ impl<'p, 'r, R: Files + AllocGlobal + Clock + Eprint, I: Read + Drop> Folder
             }
             Err(cause) => {
                 self.explain(name, cause);
-                Err(FolderFault::Failed)
+                Err(Failed)
             }
         }
     }
@@ -392,35 +384,20 @@ impl<'p, 'r, R: Files + AllocGlobal + Clock + Eprint, I: Read + Drop> Folder
 
     fn close(&mut self, _name: &str, _reader: Self::Reader) {}
 
-    fn create(&mut self, name: &str) -> Result<Self::Writer, FolderFault> {
+    fn create(&mut self, name: &str) -> Result<Self::Handle, FolderFault> {
         let mut file = self.file.take();
-        let Some(path) = path_of(self.rt.alloc(), self.output_names, self.target, name) else {
-            return Err(self.refused(&file, Cause::NoOutputName));
-        };
-        match take_way(self.rt, self.target, path.as_str(), Some(self.new_folders)) {
-            Ok(()) => {}
-            Err(cause) => return Err(self.refused(&file, cause)),
-        }
-        let (sync, mode) = (self.sync, self.mode);
-        match self.outputs.create(self.rt, path, sync, mode, &mut file) {
-            Ok(output) => Ok(ToWrite(output)),
-            Err(cause) => Err(self.refused(&file, cause)),
+        match self.new_output(name, &mut file) {
+            Ok(output) => Ok(output),
+            Err(cause) => {
+                if let Some(name) = &file {
+                    self.explain(name.as_str(), cause);
+                }
+                Err(cause.fault())
+            }
         }
     }
 
-    // Without `sync` the file is closed here, and the system writes it to the disk later.
-    fn finish(&mut self, output: Self::Writer) -> Result<(), Self::Writer> {
-        let ToWrite(mut output) = output;
-        match outputs::finish(self.rt, &mut output) {
-            Ok(()) => Ok(()),
-            Err(_) => Err(ToWrite(output)),
-        }
+    fn abandon(&mut self, output: Self::Handle) -> Result<(), Failed> {
+        self.give_up_output(output)
     }
-
-    fn discard(&mut self, output: Self::Writer) -> Result<(), FolderFault> {
-        self.explain_output(&output.0);
-        outputs::discard(self.rt, output.0)
-    }
-
-    ghost sound = { λ _. ∣ tt ∣₁ };
 }

@@ -4,11 +4,12 @@
 //! name, which never replaces a file, and the part's name is removed. So a file with an output's name is whole, however
 //! the run ends. If a file can't have two names, an output has its own from the beginning.
 
-ghost use Rattle.std.specs.Prelude.{◌≡◌, ◌≢◌, Err};
+ghost use Rattle.std.specs.Prelude.{◌≡◌};
 
 use crate::cause::Cause;
 use crate::own::FileId;
-use folder_core::FolderFault;
+use folder_core::Place;
+use io_core::Failed;
 use std::alloc::Global;
 use std::fs::{File, OpenFile, OpenOptions};
 use std::io::{ErrorKind, Read, Write};
@@ -36,6 +37,8 @@ pub struct Output<F: Read + Write + Drop> {
     name: Option<String>,
     cause: Option<Cause>,
 }
+
+impl<F: Read + Write + Drop> Place for Output<F> {}
 
 impl<F: Read + Write + Drop> Output<F> {
     /// Returns the name of its FILE, if causes are printed, and why it couldn't be written or finished.
@@ -67,20 +70,20 @@ impl<F: Read + Write + Drop> Write for Output<F> {
 
 /// How the outputs of a run are made.
 #[derive(Drop)]
-pub(crate) struct Outputs {
+pub(crate) struct NewOutputs {
     // When the run began, in nanoseconds. The names of its parts include it.
     begun: u64,
     // The folder of the last output, and whether files there can have two names.
     links: Option<(String, bool)>,
 }
 
-impl Outputs {
-    pub(crate) fn new<R: Clock>(rt: &R) -> Outputs {
+impl NewOutputs {
+    pub(crate) fn new<R: Clock>(rt: &R) -> NewOutputs {
         let begun = match rt.since_1970() {
             Ok(time) => u64::try_from(time.as_nanos()).unwrap_or(0),
             Err(_) => 0,
         };
-        Outputs { begun, links: None }
+        NewOutputs { begun, links: None }
     }
 
     /// Creates an output of this mode, if there is no file of its name. With `sync` its folder is opened first. An output
@@ -329,10 +332,8 @@ fn link<R: Files>(rt: &R, file: &R::File, name: &str, second: &str) -> io::Resul
 }
 
 /// Removes an output that isn't whole: closes it and removes its names. A name that another file has by now stays, and
-/// the fault is then `Failed`.
-pub(crate) fn discard<R: Files>(rt: &R, output: Output<R::File>) -> Result<(), FolderFault>
-    ensures fault { result ≢ Err FolderFault.Exists }
-{
+/// that is a failure.
+pub(crate) fn discard<R: Files>(rt: &R, output: Output<R::File>) -> Result<(), Failed> {
     let Output {
         path,
         part,
@@ -351,7 +352,7 @@ pub(crate) fn discard<R: Files>(rt: &R, output: Output<R::File>) -> Result<(), F
     if without_path && without_part {
         Ok(())
     } else {
-        Err(FolderFault::Failed)
+        Err(Failed)
     }
 }
 
