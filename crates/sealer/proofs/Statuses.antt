@@ -1,17 +1,20 @@
 -- The status of a run is that of its lines, if all of them were written.
-use Rattle.std.proofs.Common.{arith, length, ◌≡◌, inl, inr, ⊎_elim, All, ℕ, Bool, true, false, if◌then◌else◌, List, [], ◌∷◌, Option, codes, map, refl, sym, subst}
+use Rattle.std.proofs.Common.{arith, length, ◌≡◌, inl, inr, ⊎_elim, All, ℕ, Bool, true, false, if◌then◌else◌, List, [], ◌∷◌, Option, ap, codes, map, refl, sym, subst}
 use Rattle.std.proofs.KnownBytes.{Appends-nil, Appends-trans}
 use Rattle.std.proofs.lemmas.List.Elements.{All-cons, All-nil, All-weaker}
 use Rattle.std.proofs.lemmas.Bool.{cases_eq}
 use Rattle.clap.specs.declared.parser.matches.ArgMatches.{ArgMatches}
 use Rattle.io_core.specs.Streams.{Appends}
-use Rattle.container_core.specs.Shape.{ShapeView}
 use Rattle.command_core.specs.declared.line.FileFault.TheVariants.{CannotOpen, NoSuffix, OutputExists, CannotCreate}
 use Rattle.command_core.specs.declared.line.FileFault.TheVariants.{OutOfMemory, NoNumber, AnotherLabel, Unopened}
 use Rattle.command_core.specs.declared.line.FileFault.TheVariants.{Unsealed, Changed, SpoolFailed}
 use Rattle.command_core.specs.declared.line.FileOutcome.{FileOutcome}
 use Rattle.command_core.specs.declared.line.FileOutcome.TheVariants.{Sealed, Opened, Good, Shown, Failed}
-use Rattle.sealer_core.specs.Piping.{WorksStream}
+use Rattle.sealer_core.specs.Piping.{FollowsLine, HasSealedStream, PipeView, WorksStream}
+use Rattle.sealer_core.specs.Sealing.{SealedUnder, line_of}
+use Rattle.journal_core.specs.declared.entry.Entry as journal
+use Rattle.journal_core.specs.declared.terms.Terms.{Terms}
+use Rattle.folder_core.specs.Changes.{stream_name}
 use Rattle.command_core.specs.Lines.{FileLine, lines_text}
 use Rattle.folder_core.specs.Record.{Entry, RunRecord}
 use Rattle.command_core.specs.Files.{HaveAdded}
@@ -47,25 +50,36 @@ of_written fits status told true lines old mid new failures failures' fitting al
 of_written fits status told false lines old mid new failures failures' fitting all same is = inl is
 
 -- what became of a stream is an outcome of `pipe`
-pub fits_stream : (key : List ℕ) (shape : ShapeView) (most : ℕ) (left left' : Option (List ℕ)) (failures failures' : Option ℕ)
-    (taken taken' : Option (List ℕ)) (refusals refusals' : Option ℕ) (device : ℕ) (outcome : FileOutcome) (voids : List ℕ)
-    → WorksStream key shape most left left' failures failures' taken taken' refusals refusals' device outcome voids
-    → IsOfPiping outcome
-fits_stream _ _ _ _ _ _ _ _ _ _ _ _ (Sealed number bytes) _ _ = tt
-fits_stream _ _ _ _ _ _ _ _ _ _ _ _ (Failed NoNumber) _ _ = tt
-fits_stream _ _ _ _ _ _ _ _ _ _ _ _ (Failed (Unsealed fault)) _ _ = tt
-fits_stream _ _ _ _ _ _ _ _ _ _ _ _ (Failed CannotOpen) _ never = never
-fits_stream _ _ _ _ _ _ _ _ _ _ _ _ (Failed NoSuffix) _ never = never
-fits_stream _ _ _ _ _ _ _ _ _ _ _ _ (Failed OutputExists) _ never = never
-fits_stream _ _ _ _ _ _ _ _ _ _ _ _ (Failed CannotCreate) _ never = never
-fits_stream _ _ _ _ _ _ _ _ _ _ _ _ (Failed OutOfMemory) _ never = never
-fits_stream _ _ _ _ _ _ _ _ _ _ _ _ (Failed AnotherLabel) _ never = never
-fits_stream _ _ _ _ _ _ _ _ _ _ _ _ (Failed Changed) _ never = never
-fits_stream _ _ _ _ _ _ _ _ _ _ _ _ (Failed SpoolFailed) _ never = never
-fits_stream _ _ _ _ _ _ _ _ _ _ _ _ (Failed (Unopened fault)) _ never = never
-fits_stream _ _ _ _ _ _ _ _ _ _ _ _ (Opened bytes) _ never = never
-fits_stream _ _ _ _ _ _ _ _ _ _ _ _ (Good bytes) _ never = never
-fits_stream _ _ _ _ _ _ _ _ _ _ _ _ (Shown bytes facts) _ never = never
+pub fits_stream : (under : SealedUnder) (place : ℕ) (old new : PipeView) (outcome : FileOutcome) (voids : List ℕ)
+    → WorksStream under place old new outcome voids → IsOfPiping outcome
+fits_stream _ _ _ _ (Sealed number bytes) _ _ = tt
+fits_stream _ _ _ _ (Failed NoNumber) _ _ = tt
+fits_stream _ _ _ _ (Failed (Unsealed fault)) _ _ = tt
+fits_stream _ _ _ _ (Failed CannotOpen) _ never = never
+fits_stream _ _ _ _ (Failed NoSuffix) _ never = never
+fits_stream _ _ _ _ (Failed OutputExists) _ never = never
+fits_stream _ _ _ _ (Failed CannotCreate) _ never = never
+fits_stream _ _ _ _ (Failed OutOfMemory) _ never = never
+fits_stream _ _ _ _ (Failed AnotherLabel) _ never = never
+fits_stream _ _ _ _ (Failed Changed) _ never = never
+fits_stream _ _ _ _ (Failed SpoolFailed) _ never = never
+fits_stream _ _ _ _ (Failed (Unopened fault)) _ never = never
+fits_stream _ _ _ _ (Opened bytes) _ never = never
+fits_stream _ _ _ _ (Good bytes) _ never = never
+fits_stream _ _ _ _ (Shown bytes facts) _ never = never
+
+-- a stream that was sealed, its line, and what followed that
+pub of_stream : (status told : ℕ) (written : Bool) (under : SealedUnder) (place : ℕ) (was is : PipeView) (terms : Terms)
+    (history : List journal.Entry) (old line new : Printed)
+    → HasSealedStream under place was is terms history told old line → FollowsLine written line new
+    → status ≡ (if written then told else 2) → IsStatusOf (λ name. IsOfPiping) status (stream_name ∷ []) old.taken new.taken
+of_stream status told written under place was is terms history old line new sealed follows ends =
+    of_written (λ name. IsOfPiping) status told written (line_of stream_name sealed.outcome ∷ []) old.taken line.taken
+    new.taken old.failures line.failures
+    (All-cons (λ line. IsOfPiping line.outcome) (line_of stream_name sealed.outcome) []
+    (fits_stream under place was is sealed.outcome sealed.piped.voids sealed.piped.works)
+    (All-nil (λ line. IsOfPiping line.outcome)))
+    sealed.told (λ yes. ap (λ it. it.taken) (subst (λ w. FollowsLine w line new) yes follows)) ends
 
 -- one line that was reported
 pub of_line : (fits : List ℕ → FileOutcome → Type 0) (status : ℕ) (line : FileLine) (old new : Option (List ℕ))

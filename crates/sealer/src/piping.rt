@@ -1,5 +1,5 @@
 //! The command that seals a stream, and the ledger file over which it seals it.
-ghost use Rattle.std.specs.Prelude.{◌≡◌, ◌⊎◌, ◌<◌, ◌≤◌, ℕ, Bool, List, Option, true, ◌≢◌, IfOk, [], ◌∷◌, codes, false};
+ghost use Rattle.std.specs.Prelude.{◌≡◌, ◌⊎◌, ◌<◌, ◌≤◌, ℕ, Bool, List, None, ◌≢◌, IfOk, [], ◌∷◌, codes, false};
 ghost use Rattle.std.specs.Prelude.{OnErr, if◌then◌else◌};
 ghost use Rattle.sha2.specs.Sha256.{sha256};
 ghost use Rattle.journal_core.specs.declared.entry.Entry.{Entry};
@@ -11,9 +11,10 @@ ghost use Rattle.sqlite.specs.Files.{file_state, over_files};
 ghost use Rattle.sqlite.specs.State.{HasCleanDisk};
 ghost use Rattle.reserve_core.specs.NextRun.{IsFound};
 ghost use Rattle.reserve_core.specs.Witness.{IsWitnessed};
-ghost use Rattle.sealer_core.specs.Complaints.{Complains};
-ghost use Rattle.sealer_core.specs.Piping.{HasSealedStream};
-ghost use Rattle.sealer_core.specs.Sealing.{FoldsFiles, IsWritten, ReservesFilesOnce};
+ghost use Rattle.command_core.specs.Printing.{Complains};
+ghost use Rattle.command_core.specs.Turns.{Printed, printed};
+ghost use Rattle.sealer_core.specs.Piping.{FollowsLine, HasSealedStream, pipe_view};
+ghost use Rattle.sealer_core.specs.Sealing.{FoldsFiles, IsWritten, ReservesFilesOnce, range_asked, sealed_under};
 ghost use Rattle.sealer.specs.Status.{IsOfPiping, IsStatusOf};
 
 use crate::beginning::{
@@ -26,7 +27,7 @@ use command_line::{PipeRequest, UsageFault, pipe_request};
 use container_core::Key;
 use ledger_core::{FromRead, Sink, Source, ToWrite};
 use sealer_core::{
-    LedgerFile, MAX_DEPTH, MAX_WORKERS, Outs, PipeOptions, Report, Witness, pipe_all,
+    LedgerFile, MAX_DEPTH, MAX_WORKERS, Outs, PipeOptions, Report, Stream, Witness, pipe_all,
 };
 use sqlite::{FileFrom, FileStore, Start, Wary};
 use std::io::{Read, Write, sink};
@@ -269,7 +270,7 @@ fn pipe_from<
     // The ledger file was opened as it was found, and at most one range was appended to it. Then nothing was read or
     // written, or the stream was sealed over a range of one number reserved there, with one legal history. The file has
     // that range without its log, and the journal records the history. Standard error takes a complaint, or the
-    // stream's line and then at most one complaint. Each may be cut short.
+    // stream's line and then at most one complaint. Each may be cut short. A writer has no record.
     ensures run { IfOk result (λ r. (keeper : _)
         × (HasCleanDisk (file_state keeper) → (it : IsFound over_files (image_at S.Start) keeper)
         × (request.now.may_make ≡ false → (file_state it.connection).now.schema.tables ≢ []))
@@ -277,20 +278,18 @@ fn pipe_from<
         (LedgerFile.Kept keeper) r.1
         × (((r.0 ≡ 2) × (reader.new ≡ reader.old) × (writer.new ≡ writer.old) × (out.new.journal ≡ out.old.journal)
         × Complains (E.taken out.old.faults) (E.taken out.new.faults))
-        ⊎ ((range : Numbers) × (history : List Entry) × (told : ℕ) × (written : Bool) × (lines : Option (List ℕ))
-        × (failures : Option ℕ)
-        × FoldsFiles LedgerFile.Kept LedgerFile.Folded (sha256 key.now) request.now.device 1 (LedgerFile.Kept keeper)
-        r.1 range
+        ⊎ ((range : Numbers) × (history : List Entry) × (told : ℕ) × (written : Bool) × (line : Printed)
+        × FoldsFiles LedgerFile.Kept LedgerFile.Folded (range_asked (sha256 key.now) request.now.device 1)
+        (LedgerFile.Kept keeper) r.1 range
         × IsLawfulRange range
         × IsWitnessed (N.floor witness.old) (N.recorded witness.old) (N.recorded witness.new) range
-        × HasSealedStream key.now request.now.shape request.now.max_chunks
-        (R.left reader.old) (R.left reader.new) (R.failures reader.old) (R.failures reader.new)
-        (W.taken writer.old) (W.taken writer.new) (W.failures writer.old) (W.failures writer.new)
-        (terms_of range 1) history told (E.taken out.old.faults) lines (E.failures out.old.faults) failures
+        × HasSealedStream (sealed_under key.now request.now.shape range.device request.now.max_chunks) 0
+        (pipe_view (R.left reader.old) (R.failures reader.old) (W.taken writer.old) (W.failures writer.old) None)
+        (pipe_view (R.left reader.new) (R.failures reader.new) (W.taken writer.new) (W.failures writer.new) None)
+        (terms_of range 1) history told (printed (E.taken out.old.faults) (E.failures out.old.faults)) line
         × IsWritten J.taken (journal_text (terms_of range 1) history) written out.old.journal out.new.journal
         × (r.0 ≡ (if written then told else 2))
-        × (written ≡ true → (E.taken out.new.faults ≡ lines) × (E.failures out.new.faults ≡ failures))
-        × (written ≡ false → Complains lines (E.taken out.new.faults))))) }
+        × FollowsLine written line (printed (E.taken out.new.faults) (E.failures out.new.faults))))) }
     // The ledger file can't be used: nothing was read or written, including lines and the journal.
     ensures unopened { OnErr result ((reader.new ≡ reader.old) × (writer.new ≡ writer.old) × (out.new ≡ out.old)) }
 {
@@ -298,7 +297,7 @@ fn pipe_from<
     let mut file = open_ledger(host, &ledger_of(request.ledger, request.may_make), start)?;
     let alloc = rt.alloc();
     let status = pipe_all(
-        rt, alloc, key, &mut file, witness, reader, writer, &options, out,
+        rt, alloc, key, &mut file, witness, reader, writer, Stream, &options, out,
     );
     Ok((status, file))
 }

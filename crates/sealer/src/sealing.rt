@@ -11,11 +11,11 @@ ghost use Rattle.sqlite.specs.Files.{file_state, over_files};
 ghost use Rattle.sqlite.specs.State.{HasCleanDisk};
 ghost use Rattle.reserve_core.specs.NextRun.{IsFound};
 ghost use Rattle.reserve_core.specs.Witness.{IsWitnessed};
+ghost use Rattle.command_core.specs.Printing.{Complains};
 ghost use Rattle.command_core.specs.Turns.{printed};
 ghost use Rattle.folder_core.specs.Changes.{IsUnstarted, started};
-ghost use Rattle.sealer_core.specs.Complaints.{Complains};
 ghost use Rattle.sealer_core.specs.Sealing.{FoldsFiles, HasSealed, IsOfSealing, IsWritten, ReservesFilesOnce};
-ghost use Rattle.sealer_core.specs.Sealing.{sealed_under};
+ghost use Rattle.sealer_core.specs.Sealing.{range_asked, sealed_under};
 ghost use Rattle.sealer.specs.Status.{IsOfCommand, IsStatusOf, IsStatusOver};
 
 use crate::beginning::{
@@ -28,9 +28,10 @@ use crate::{OverFiles, Streams, print_complaint};
 use clap::ArgMatches;
 use command_line::{SealRequest, naming_asked, seal_request};
 use container_core::Key;
+use folder_core::Folder;
 use sealer_core::{
     LedgerFile, MAX_BYTES, MAX_LANES, MAX_WINDOW, MAX_WORKERS, Outs, Report, SealOptions,
-    SealingFolder, Witness, seal_all,
+    SealingOutputs, Witness, seal_all,
 };
 use sqlite::{FileFrom, FileStore, Start, Wary};
 use std::io::Write;
@@ -178,7 +179,7 @@ fn seal_in_folder<
 fn seal_in_turn<
     'r,
     R: Files + AllocGlobal + Eprint + Threads + Wait + Sync,
-    F: SealingFolder,
+    F: Folder + SealingOutputs,
     L: Report + Drop,
     E: Report + Drop,
     J: Report + Drop,
@@ -219,7 +220,7 @@ fn seal_in_turn<
 fn seal_once<
     'r,
     R: Files + AllocGlobal + Eprint + Threads + Wait + Sync,
-    F: SealingFolder,
+    F: Folder + SealingOutputs,
     L: Report + Drop,
     E: Report + Drop,
     J: Report + Drop,
@@ -285,7 +286,7 @@ fn seal_from<
     R: AllocGlobal + Threads + Wait + Sync,
     S: Start,
     N: Witness,
-    F: SealingFolder,
+    F: Folder + SealingOutputs,
     L: Report + Drop,
     E: Report + Drop,
     J: Report + Drop,
@@ -317,8 +318,8 @@ fn seal_from<
         × (((r.0 ≡ 2) × (folder.new ≡ folder.old) × (out.new.lines ≡ out.old.lines)
         × (out.new.journal ≡ out.old.journal))
         ⊎ ((range : Numbers) × (history : List Entry) × (told : ℕ) × (written : Bool)
-        × FoldsFiles LedgerFile.Kept LedgerFile.Folded (sha256 key.now) request.now.device
-        (length request.now.files.now) (LedgerFile.Kept keeper) r.1 range
+        × FoldsFiles LedgerFile.Kept LedgerFile.Folded
+        (range_asked (sha256 key.now) request.now.device (length request.now.files.now)) (LedgerFile.Kept keeper) r.1 range
         × IsLawfulRange range
         × IsWitnessed (N.floor witness.old) (N.recorded witness.old) (N.recorded witness.new) range
         × HasSealed (sealed_under key.now request.now.shape range.device request.now.max_bytes)

@@ -1,9 +1,10 @@
 //! The command that opens one container to standard output.
-ghost use Rattle.std.specs.Prelude.{◌<◌, ◌≤◌, ◌≡◌, [], ◌∷◌, codes, option_map, unwrap_or};
+ghost use Rattle.std.specs.Prelude.{◌<◌, ◌≤◌, ◌≡◌, IfSome, [], ◌∷◌, codes, option_map, unwrap_or};
 ghost use Rattle.clap.specs.Matches.{first_value, found_of};
 ghost use Rattle.command_core.specs.declared.line.FileOutcome.{FileOutcome};
-ghost use Rattle.command_core.specs.Unpiping.{HasUnpiped, IsOfUnpiping};
+ghost use Rattle.command_core.specs.Unpiping.{HasUnpiped, IsOfUnpiping, outputs_view};
 ghost use Rattle.command_core.specs.Work.{AreTold};
+ghost use Rattle.folder_core.specs.Changes.{IsFresh, IsIdle, IsNewStream};
 ghost use Rattle.sealer.specs.Status.{IsStatusOf};
 
 use crate::files::{clear, key_at, progress_of};
@@ -12,7 +13,9 @@ use clap::ArgMatches;
 use command_line::{UnpipeRequest, UsageFault, unpipe_request};
 use container_core::{Key, MAX_OPENED};
 use ledger_core::{Sink, ToWrite};
-use sealer_core::{Folder, MAX_WORKERS, Report, UnpipeOptions, unpipe_all};
+use sealer_core::{
+    Folder, MAX_WORKERS, OpeningFolder, Report, Stream, ToStream, UnpipeOptions, unpipe_all,
+};
 use std::io::{Read, Write};
 use std::rt::{Clock, Env, Files};
 use std::thread::Threads;
@@ -93,7 +96,6 @@ fn unpipe_to<
         (λ name. IsOfUnpiping (O.contents streams.output.0) (O.contents result.1.output.0)) result.0
         (request.now.file.now ∷ []) (E.contents streams.errors.0) (E.contents result.1.errors.0) }
 {
-    let mut folder = folder;
     let progress = folder.progress;
     let key = match key_at(rt, request.key, streams.terminals.causes) {
         Ok(key) => key,
@@ -109,8 +111,7 @@ fn unpipe_to<
         progress,
         of_files: true,
     });
-    let name = request.file;
-    let (status, output) = unpipe_from(rt, &key, request, &mut folder, name, output, &mut errors);
+    let (status, output) = unpipe_out(rt, &key, request, folder, output, &mut errors);
     clear(progress);
     let streams = Streams {
         output,
@@ -118,6 +119,28 @@ fn unpipe_to<
         terminals,
     };
     (status, streams)
+}
+
+// Opens the file that is asked for, which is in this folder, to a writer. Returns the status and the writer.
+fn unpipe_out<R: AllocGlobal + Clock + Threads + Sync, F: Folder + Drop, W: Sink + Drop, E: Report>(
+    rt: &R,
+    key: &Key,
+    request: &UnpipeRequest<'_>,
+    folder: F,
+    writer: W,
+    lines: &mut E,
+) -> (u8, W)
+    requires workers { (0 < request.now.workers) × (request.now.workers ≤ MAX_WORKERS) }
+    requires max_bytes { request.now.max_bytes ≤ MAX_OPENED }
+    requires idle { IsIdle (F.rest folder) }
+    ensures run { (outcome : FileOutcome) × IsOfUnpiping (W.taken writer) (W.taken result.1) outcome
+        × AreTold result.0 (record { name = request.now.file.now; outcome = outcome } ∷ [])
+        (E.taken lines.old) (E.taken lines.new) (E.failures lines.old) (E.failures lines.new) }
+{
+    let mut both = ToStream::of(folder, writer);
+    let status = unpipe_from(rt, key, request, &mut both, Stream, lines);
+    let ToStream { folder: _, stream } = both;
+    (status, stream)
 }
 
 // The options of this request.
@@ -133,26 +156,27 @@ fn unpipe_options<'q>(request: &'q UnpipeRequest<'_>) -> UnpipeOptions<'q>
     }
 }
 
-/// Opens a file of a folder to a stream, as `unpipe_all` does. Returns the status and the stream.
-fn unpipe_from<R: AllocGlobal + Clock + Threads + Sync, F: Folder, W: Sink + Drop, E: Report>(
+/// Opens the file that is asked for to a new stream of its folder, as `unpipe_all` does. Returns the status.
+fn unpipe_from<R: AllocGlobal + Clock + Threads + Sync, F: OpeningFolder, E: Report>(
     rt: &R,
     key: &Key,
     request: &UnpipeRequest<'_>,
     folder: &mut F,
-    name: &str,
-    stream: W,
+    output: F::Handle,
     lines: &mut E,
-) -> (u8, W)
+) -> u8
     requires workers { (0 < request.now.workers) × (request.now.workers ≤ MAX_WORKERS) }
     requires max_bytes { request.now.max_bytes ≤ MAX_OPENED }
-    ensures status { result.0 ≤ 2 }
+    requires new { IfSome (F.rest folder.old) (IsNewStream (F.Handle.at output)) }
+    requires fresh { IsFresh (F.rest folder.old) (F.taken folder.old) (F.failures folder.old) }
+    ensures status { result ≤ 2 }
     ensures run { (outcome : FileOutcome)
-        × HasUnpiped key.now request.now.max_bytes (option_map (λ b. b.now) request.now.label) name.now
-        (W.taken stream) (W.taken result.1) (W.failures stream) (W.failures result.1)
-        (F.told folder.old) (F.told folder.new) outcome
-        × AreTold result.0 (record { name = name.now; outcome = outcome } ∷ [])
+        × HasUnpiped key.now request.now.max_bytes (option_map (λ b. b.now) request.now.label) request.now.file.now
+        (F.Handle.at output) (outputs_view (F.rest folder.old) (F.taken folder.old) (F.failures folder.old))
+        (outputs_view (F.rest folder.new) (F.taken folder.new) (F.failures folder.new)) outcome
+        × AreTold result (record { name = request.now.file.now; outcome = outcome } ∷ [])
         (E.taken lines.old) (E.taken lines.new) (E.failures lines.old) (E.failures lines.new) }
 {
-    let options = unpipe_options(request);
-    unpipe_all(rt, rt.alloc(), key, folder, name, stream, &options, lines)
+    let (name, options) = (request.file, unpipe_options(request));
+    unpipe_all(rt, rt.alloc(), key, folder, name, output, &options, lines)
 }
