@@ -5,7 +5,7 @@ use folder_core::{Folder, FolderFault, OpeningFolder, Outputs, Whole};
 use folder_memory::{MemoryFolder, MemoryHandle, MemoryReader};
 use ledger_core::{Failed, Ledger, Source};
 use reserve_core::{Fold, LedgerFile};
-use sealer_core::SealingFolder;
+use sealer_core::SealingOutputs;
 use std::sync::atomic::{AtomicU64, Ordering};
 
 /// What a failing call does.
@@ -225,7 +225,7 @@ impl<'a> OpeningFolder for Failing<'a> {
 }
 
 // The folder below has no record that gets a key.
-impl<'a> SealingFolder for Failing<'a> {
+impl<'a> SealingOutputs for Failing<'a> {
     fn start<S: Fold>(&mut self, _file: &LedgerFile<S>, _key: &Key, _ledger: &Ledger) {}
 }
 

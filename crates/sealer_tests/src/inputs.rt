@@ -1,10 +1,12 @@
 //! Inputs, spools and streams in memory, and runs of `unpipe_all` over them and over folders.
+ghost use Rattle.folder_core.specs.Changes.{IsIdle};
+
 use crate::failing::{Act, Calls};
 use crate::runs::counting_key;
 use folder_core::{FileReader, Spool, Spooled};
 use io_memory::{Schedule, ToMemory};
 use ledger_core::{Failed, Sink, Source};
-use sealer_core::{Folder, FolderFault, UnpipeOptions, unpipe_all};
+use sealer_core::{Folder, FolderFault, Stream, ToStream, UnpipeOptions, unpipe_all};
 use std::alloc::Global;
 use std::marker::Brand;
 use std::thread::Threads;
@@ -135,24 +137,28 @@ pub(crate) fn pipe_of<'a>(
 // The name of the input in its folder.
 const NAME: &str = "a.stm";
 
-/// A folder of one input, which can be opened once. No output can be created in it.
+/// A folder of one input, which can be opened once. No output can be created in it, and nothing is written to it.
 #[derive(Drop)]
 struct OneFile<I: FileReader + Drop> {
     input: Option<I>,
 }
 
+impl<I: FileReader + Drop> Sink for OneFile<I> {
+    fn write(&mut self, _bytes: &[u8]) -> Result<usize, Failed> {
+        Err(Failed)
+    }
+}
+
 impl<I: FileReader + Drop> Folder for OneFile<I> {
     type Reader = I;
 
-    type Writer = ToMemory;
-
-    fn open(&mut self, name: &str) -> Result<I, FolderFault> {
+    fn open(&mut self, name: &str) -> Result<I, Failed> {
         if name != NAME {
-            return Err(FolderFault::Failed);
+            return Err(Failed);
         }
         match self.input.take() {
             Some(input) => Ok(input),
-            None => Err(FolderFault::Failed),
+            None => Err(Failed),
         }
     }
 
@@ -173,34 +179,28 @@ impl<I: FileReader + Drop> Folder for OneFile<I> {
 
     fn close(&mut self, _name: &str, _reader: I) {}
 
-    fn create(&mut self, _name: &str) -> Result<ToMemory, FolderFault> {
+    fn create(&mut self, _name: &str) -> Result<Stream, FolderFault> {
         Err(FolderFault::Failed)
     }
 
-    fn finish(&mut self, output: ToMemory) -> Result<(), ToMemory> {
-        Err(output)
+    fn abandon(&mut self, _output: Stream) -> Result<(), Failed> {
+        Err(Failed)
     }
-
-    fn discard(&mut self, _output: ToMemory) -> Result<(), FolderFault> {
-        Err(FolderFault::Failed)
-    }
-
-    ghost sound = { λ _. ∣ tt ∣₁ };
 }
 
-/// A stream in memory.
+/// A writer in memory whose calls are counted.
 #[derive(Drop)]
-struct Stream<'a> {
+struct Counted<'a> {
     taken: ToMemory,
     calls: &'a Calls,
 }
 
-impl Sink for Stream<'_> {
+impl Sink for Counted<'_> {
     fn write(&mut self, bytes: &[u8]) -> Result<usize, Failed> {
         if self.calls.fails(Act::Write) {
             return Err(Failed);
         }
-        self.taken.write(bytes)
+        Sink::write(&mut self.taken, bytes)
     }
 }
 
@@ -236,13 +236,15 @@ pub(crate) struct Ended {
     written: ToMemory,
 }
 
-/// Opens the file `a.stm` of a folder. `None` if memory is refused, or the number of workers is wrong.
-pub(crate) fn run_in<R: AllocGlobal + Threads + Clock + Sync, F: Folder>(
+/// Opens the file `a.stm` of a folder to a stream. `None` if memory is refused, or the number of workers is wrong.
+pub(crate) fn run_in<R: AllocGlobal + Threads + Clock + Sync, F: Folder + Drop>(
     rt: &R,
-    folder: &mut F,
+    folder: F,
     how: &How,
     calls: &Calls,
-) -> Option<Ended> {
+) -> Option<(F, Ended)>
+    requires idle { IsIdle (F.rest folder) }
+{
     if how.workers == 0 || how.workers > 16 {
         return None;
     }
@@ -253,24 +255,28 @@ pub(crate) fn run_in<R: AllocGlobal + Threads + Clock + Sync, F: Folder>(
     };
     let taken = ToMemory::new(rt.alloc(), 0, usize::MAX, how.writes).ok()?;
     let mut lines = ToMemory::new(rt.alloc(), 64, 64, how.lines).ok()?;
-    let stream = Stream { taken, calls };
+    let mut both = ToStream::of(folder, Counted { taken, calls });
     let key = counting_key();
-    let (status, stream) = unpipe_all(
+    let status = unpipe_all(
         rt,
         rt.alloc(),
         &key,
-        folder,
+        &mut both,
         NAME,
-        stream,
+        Stream,
         &options,
         &mut lines,
     );
-    let Stream { taken, calls: _ } = stream;
-    Some(Ended {
-        status,
-        lines,
-        written: taken,
-    })
+    let ToStream { folder, stream } = both;
+    let Counted { taken, calls: _ } = stream;
+    Some((
+        folder,
+        Ended {
+            status,
+            lines,
+            written: taken,
+        },
+    ))
 }
 
 /// Opens an input that is the file `a.stm` of its folder; `None` as above.
@@ -280,8 +286,8 @@ pub(crate) fn run_over<R: AllocGlobal + Threads + Clock + Sync, I: FileReader + 
     how: &How,
     calls: &Calls,
 ) -> Option<Ended> {
-    let mut folder = OneFile { input };
-    run_in(rt, &mut folder, how, calls)
+    let (_folder, ended) = run_in(rt, OneFile { input }, how, calls)?;
+    Some(ended)
 }
 
 /// How a run is to end: its status, its line, and how many bytes of the plaintext were written, at least and at most.

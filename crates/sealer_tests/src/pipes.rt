@@ -1,12 +1,15 @@
 //! Streams: a run of `pipe_all` over a reader and a writer in memory, what it must print, and what it must write. The
 //! key is 00 01 .. 1f, the device 1. There are at most two chunks of 4 KiB with an empty label, two workers, and depth
 //! 4.
+ghost use Rattle.std.specs.Prelude.{IfSome};
+ghost use Rattle.folder_core.specs.Changes.{IsFresh, IsNewStream, IsUnstarted};
+
 use crate::runs::{MemoryOuts, counting_key, journal_of, ledger_after, outs};
 use container_core::{Shape, seal};
 use io_memory::{FromMemory, Schedule, ToMemory};
 use ledger_core::{Device, Failed, fill};
 use reserve_core::{Fold, LedgerFile, Unwitnessed};
-use sealer_core::{PipeOptions, pipe_all};
+use sealer_core::{PipeOptions, SealingOutputs, Stream, pipe_all};
 use sha2::{Digest, Sha256};
 use std::alloc::Global;
 use std::sync::Wait;
@@ -75,13 +78,18 @@ fn unread_of(alloc: Global, reader: &mut FromMemory<'_>) -> Option<usize> {
 }
 
 // The status of `pipe_all` over this ledger file.
-fn status_over<R: AllocGlobal + Threads + Wait + Sync, S: Fold>(
+pub(crate) fn status_over<R: AllocGlobal + Threads + Wait + Sync, S: Fold, W: SealingOutputs>(
     rt: &R,
     file: &mut LedgerFile<S>,
     reader: &mut FromMemory<'_>,
-    writer: &mut ToMemory,
+    writer: &mut W,
+    output: W::Handle,
     out: &mut MemoryOuts,
-) -> Option<u8> {
+) -> Option<u8>
+    requires unstarted { IfSome (W.rest writer.old) IsUnstarted }
+    requires new { IfSome (W.rest writer.old) (IsNewStream (W.Handle.at output)) }
+    requires fresh { IsFresh (W.rest writer.old) (W.taken writer.old) (W.failures writer.old) }
+{
     let shape = Shape::two(12, b"").ok()?;
     let options = PipeOptions {
         device: Device::new(1)?,
@@ -99,6 +107,7 @@ fn status_over<R: AllocGlobal + Threads + Wait + Sync, S: Fold>(
         &mut Unwitnessed,
         reader,
         writer,
+        output,
         &options,
         out,
     ))
@@ -113,7 +122,7 @@ fn end_over<R: AllocGlobal + Threads + Wait + Sync, S: Fold>(
     let mut reader = FromMemory::new(plain.as_slice(), run.step, run.reads);
     let mut writer = ToMemory::new(rt.alloc(), 64, run.step, run.writes).ok()?;
     let mut out = outs_of(rt.alloc(), run)?;
-    let status = status_over(rt, file, &mut reader, &mut writer, &mut out);
+    let status = status_over(rt, file, &mut reader, &mut writer, Stream, &mut out);
     let unread = unread_of(rt.alloc(), &mut reader);
     Some(Ended {
         status,
@@ -143,16 +152,24 @@ fn is_begun(
     Some(is_known && fits && whole.as_slice().starts_with(bytes))
 }
 
-fn is_written(alloc: Global, ended: &Ended, run: &Run) -> bool {
-    let bytes = ended.writer.bytes();
-    match run.left {
-        Left::Untouched => bytes.is_empty() && ended.unread == Some(run.count),
+// Whether these bytes were to be written of a stream of `count` zero bytes.
+pub(crate) fn is_left(alloc: Global, bytes: &[u8], count: usize, left: Left) -> bool {
+    match left {
+        Left::Untouched => bytes.is_empty(),
         Left::Is(all) => bytes == all,
         Left::Whole(length, digest) => bytes.len() == length && Sha256::digest(bytes) == *digest,
         Left::Begun(least, most, digest) => {
-            is_begun(alloc, bytes, run.count, least, most, digest) == Some(true)
+            is_begun(alloc, bytes, count, least, most, digest) == Some(true)
         }
     }
+}
+
+fn is_written(alloc: Global, ended: &Ended, run: &Run) -> bool {
+    let is_read_so = match run.left {
+        Left::Untouched => ended.unread == Some(run.count),
+        _ => true,
+    };
+    is_read_so && is_left(alloc, ended.writer.bytes(), run.count, run.left)
 }
 
 // Whether a run ended as expected.

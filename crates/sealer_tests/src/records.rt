@@ -1,8 +1,11 @@
-//! `seal_all` over a folder whose record is known, so each call of it has to show that it may come. Files are sealed in
-//! it, and each kind of call fails.
+//! `seal_all` and `pipe_all` over a folder whose record is known, so each call of it has to show that it may come. Files
+//! and streams are sealed in it, and each kind of call fails.
+use crate::pipes::{Left, is_left, status_over};
 use crate::runs::{SECRET, has_counts, journal_of, ledger_after, seal_over, steady_outs};
+use crate::streams::FIRST;
 use crate::traces::{MORE_UNDER_2, NONE_UNDER_1};
 use folder_tests::{Limits, MemoryFolder};
+use io_memory::{FromMemory, Schedule};
 use std::sync::Wait;
 use std::thread::Threads;
 
@@ -183,5 +186,78 @@ fn a_run_over_a_known_record_seals_or_says_why_not(rt: HostRuntime) {
             row.lanes,
             row.lines
         );
+    }
+}
+
+// ---- streams
+
+// What fails while a stream of 8,192 zero bytes is sealed, its line, and what was written: the header, and each of its two
+// chunks, in a call of its own.
+struct Piped {
+    limits: Limits,
+    reads: Schedule,
+    line: &'static str,
+    left: Left<'static>,
+}
+
+// A stream has no end that could fail.
+static PIPED: [Piped; 5] = [
+    Piped {
+        limits: NONE,
+        reads: Schedule::Never,
+        line: "sealed - file 0 bytes 8192\n",
+        left: Left::Whole(8_249, &FIRST),
+    },
+    Piped {
+        limits: Limits { ends: 0, ..NONE },
+        reads: Schedule::Never,
+        line: "sealed - file 0 bytes 8192\n",
+        left: Left::Whole(8_249, &FIRST),
+    },
+    Piped {
+        limits: Limits { writes: 0, ..NONE },
+        reads: Schedule::Never,
+        line: "failed -: write failed\n",
+        left: Left::Is(b""),
+    },
+    Piped {
+        limits: Limits { writes: 2, ..NONE },
+        reads: Schedule::Never,
+        line: "failed -: write failed\n",
+        left: Left::Begun(4_137, 4_137, &FIRST),
+    },
+    Piped {
+        limits: NONE,
+        reads: Schedule::Bytes(8_191),
+        line: "failed -: read failed\n",
+        left: Left::Begun(25, 4_137, &FIRST),
+    },
+];
+
+// Whether a run ends as the row says. `None` if memory is refused.
+fn pipes<R: AllocGlobal + Threads + Wait + Sync>(rt: &R, row: &Piped) -> Option<bool> {
+    let alloc = rt.alloc();
+    let mut folder = MemoryFolder::unkeyed(alloc, &[])?;
+    folder.limit(row.limits);
+    let stream = folder.new_stream()?;
+    let mut file = ledger_after(alloc, "")?;
+    let mut out = steady_outs(alloc)?;
+    let plain = [0u8; 8_192];
+    let mut reader = FromMemory::new(&plain, 1_000, row.reads);
+    let status = status_over(rt, &mut file, &mut reader, &mut folder, stream, &mut out)?;
+    let fails = usize::from(row.line.starts_with("failed"));
+    Some(
+        usize::from(status) == fails
+            && out.faults.bytes() == row.line.as_bytes()
+            && out.lines.bytes().is_empty()
+            && has_counts(alloc, journal_of(&out), 1 - fails, fails)
+            && is_left(alloc, folder.taken(), 8_192, row.left),
+    )
+}
+
+#[test]
+fn a_stream_over_a_known_record_is_sealed_or_its_line_says_why_not(rt: HostRuntime) {
+    for row in &PIPED {
+        assert!(rt; pipes(&rt, row) == Some(true), "{}", row.line);
     }
 }

@@ -5,12 +5,12 @@ ghost use Rattle.folder_core.specs.Changes.{IsIdle, IsUnstarted};
 
 use command_core::{open_all, verify_all};
 use container_core::{Key, Shape, open};
-use folder_core::OpeningFolder;
+use folder_core::{Folder, OpeningFolder};
 use folder_memory::MemoryFolder;
 use io_memory::{FromMemory, Schedule, ToMemory};
 use ledger_core::Device;
 use reserve_core::{Fold, Keeper, LedgerFile, Unwitnessed};
-use sealer_core::{OpenOptions, Outs, SealOptions, SealingFolder, run_audit, seal_all};
+use sealer_core::{OpenOptions, Outs, SealOptions, SealingOutputs, run_audit, seal_all};
 use sqlite::{Connection, MemStore};
 use std::alloc::{AllocError, Global};
 use std::sync::Wait;
@@ -166,7 +166,7 @@ pub(crate) fn folder_of(alloc: Global, files: &[(&str, &[u8])]) -> Option<Memory
 
 fn has_put(folder: &mut MemoryFolder, files: &[(&str, &[u8])]) -> bool {
     for (name, bytes) in files {
-        if folder.put(name, bytes).is_err() {
+        if !folder.put(name, bytes) {
             return false;
         }
     }
@@ -175,8 +175,8 @@ fn has_put(folder: &mut MemoryFolder, files: &[(&str, &[u8])]) -> bool {
 
 pub(crate) fn has_bytes(folder: &MemoryFolder, name: &str, bytes: &[u8]) -> bool {
     match folder.bytes(name) {
-        Ok(found) => found.as_slice() == bytes,
-        Err(_) => false,
+        Some(found) => found.as_slice() == bytes,
+        None => false,
     }
 }
 
@@ -189,8 +189,8 @@ pub(crate) fn holds(
     plain: &[u8],
 ) -> bool {
     match folder.bytes(name) {
-        Ok(sealed) => opens_to(alloc, sealed.as_slice(), number, plain),
-        Err(_) => false,
+        Some(sealed) => opens_to(alloc, sealed.as_slice(), number, plain),
+        None => false,
     }
 }
 
@@ -207,7 +207,11 @@ fn opens_to(alloc: Global, sealed: &[u8], number: u8, plain: &[u8]) -> bool {
 
 // The status of `seal_all` with the key above and device 1, for containers of version 1; `None` if the options are
 // invalid.
-pub(crate) fn seal_over<R: AllocGlobal + Threads + Wait + Sync, S: Fold, F: SealingFolder>(
+pub(crate) fn seal_over<
+    R: AllocGlobal + Threads + Wait + Sync,
+    S: Fold,
+    F: Folder + SealingOutputs,
+>(
     rt: &R,
     file: &mut LedgerFile<S>,
     folder: &mut F,
@@ -226,7 +230,11 @@ pub(crate) fn seal_over<R: AllocGlobal + Threads + Wait + Sync, S: Fold, F: Seal
 }
 
 // `seal_over` for containers of this shape.
-pub(crate) fn seal_shaped<R: AllocGlobal + Threads + Wait + Sync, S: Fold, F: SealingFolder>(
+pub(crate) fn seal_shaped<
+    R: AllocGlobal + Threads + Wait + Sync,
+    S: Fold,
+    F: Folder + SealingOutputs,
+>(
     rt: &R,
     file: &mut LedgerFile<S>,
     folder: &mut F,

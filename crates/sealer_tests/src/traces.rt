@@ -3,7 +3,7 @@
 //! `cryptography`.
 use crate::cases::{Case, Left, Trouble, Work, ends_in};
 use crate::runs::{BARE, CUT, EMPTY, LABELLED, SECRET, folder_of};
-use folder_memory::{MemoryFolder, Pace, Told};
+use folder_memory::{MemoryFolder, Pace, Told, What};
 use io_memory::Schedule;
 use sealer_core::FolderFault;
 use std::sync::Wait;
@@ -24,40 +24,17 @@ pub(crate) enum Seen<'a> {
 }
 
 fn is_seen(told: &Told, seen: Seen) -> bool {
-    match seen {
-        Seen::Reading(name, bytes) => match told {
-            Told::Reading(own, read) => own.as_str() == name && read.as_slice() == bytes,
-            _ => false,
-        },
-        Seen::Unread(name) => match told {
-            Told::Unread(own) => own.as_str() == name,
-            _ => false,
-        },
-        Seen::Rewound(name, failed) => match told {
-            Told::Rewound(own, is) => own.as_str() == name && *is == failed,
-            _ => false,
-        },
-        Seen::Closed(name, failed) => match told {
-            Told::Closed(own, is) => own.as_str() == name && *is == failed,
-            _ => false,
-        },
-        Seen::Created(name) => match told {
-            Told::Created(own) => own.as_str() == name,
-            _ => false,
-        },
-        Seen::Refused(name, fault) => match told {
-            Told::Refused(own, cause) => own.as_str() == name && *cause == fault,
-            _ => false,
-        },
-        Seen::Finished(name, bytes) => match told {
-            Told::Finished(own, all) => own.as_str() == name && all.as_slice() == bytes,
-            _ => false,
-        },
-        Seen::Discarded(name, bytes) => match told {
-            Told::Discarded(own, all) => own.as_str() == name && all.as_slice() == bytes,
-            _ => false,
-        },
-    }
+    let (what, name, bytes): (What, &str, &[u8]) = match seen {
+        Seen::Reading(name, bytes) => (What::Reading, name, bytes),
+        Seen::Unread(name) => (What::Unread, name, &[]),
+        Seen::Rewound(name, failed) => (What::Rewound(failed), name, &[]),
+        Seen::Closed(name, failed) => (What::Closed(failed), name, &[]),
+        Seen::Created(name) => (What::Created, name, &[]),
+        Seen::Refused(name, fault) => (What::Refused(fault), name, &[]),
+        Seen::Finished(name, bytes) => (What::Finished, name, bytes),
+        Seen::Discarded(name, bytes) => (What::Discarded, name, bytes),
+    };
+    told.what == what && told.name.as_str() == name && told.bytes.as_slice() == bytes
 }
 
 /// Whether exactly this happened in the folder, in this order.

@@ -366,7 +366,7 @@ static IN_FOLDER: [InFolder; 6] = [
 fn goes_in_folder<R: AllocGlobal + Threads + Clock + Sync>(rt: &R, row: &InFolder) -> Option<bool> {
     let mut folder = folder_of(rt.alloc(), &[(row.name, row.sealed)])?;
     folder.refuse_call(row.failing);
-    let ended = run_in(rt, &mut folder, &STEADY, &Calls::steady())?;
+    let (folder, ended) = run_in(rt, folder, &STEADY, &Calls::steady())?;
     let end = End {
         status: row.status,
         line: row.line,
