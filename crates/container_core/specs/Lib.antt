@@ -2,6 +2,7 @@ pub mod Chunks
 pub mod Container
 pub mod Cutting
 pub mod Faults
+pub mod Nonces
 pub mod Opening
 pub mod Shape
 pub mod Stream

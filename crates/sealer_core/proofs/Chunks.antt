@@ -6,6 +6,7 @@ use native.Mathlib.Decide.{dec_le}
 use Rattle.std.specs.Prelude.{slice_get}
 use Rattle.container_core.specs.Chunks.{body_length, chunk_count, chunks, tag_size}
 use Rattle.container_core.specs.Container.{container, header_of}
+use Rattle.container_core.specs.Nonces.{container_nonces, stream_nonces}
 use Rattle.container_core.specs.Shape.{IsShape, ShapeView, size_of}
 use Rattle.container_core.specs.Stream.{is_nil, nonce_of, prefix_in, stream}
 use Rattle.container_core.proofs.HeaderLemmas.{prefix_in-header_of, shape-bounds}
@@ -13,7 +14,6 @@ use Rattle.container_core.proofs.LawLemmas.{nonce_of-injective}
 use Rattle.container_core.proofs.OpeningLemmas.{length-body}
 use Rattle.container_core.proofs.PartsLemmas.{body-count, count-enough, length-chunks}
 use Rattle.io_core.specs.Streams.{IsFront}
-use Rattle.sealer_core.specs.Nonces.{container_nonces, stream_nonces}
 use Rattle.sealer_core.specs.Theorem.{HasChunk}
 
 has_nonce : (header : List ℕ) (number : ℕ) (list : List (List ℕ)) (chunk : ℕ) → chunk < length list

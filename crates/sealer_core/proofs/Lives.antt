@@ -13,6 +13,7 @@ use Rattle.journal_core.specs.History.{Legal, entry}
 use Rattle.journal_core.proofs.Prefixes.{numbers_once, prefix_tells}
 use Rattle.container_core.specs.Chunks.{chunks}
 use Rattle.container_core.specs.Container.{container, header_of}
+use Rattle.container_core.specs.Nonces.{container_nonces, sealed_by_nonces, stream_nonces}
 use Rattle.container_core.specs.Stream.{is_nil, sealed_chunk, stream}
 use Rattle.container_core.specs.Shape.{ShapeView, IsShape, size_of}
 use Rattle.container_core.proofs.PartsLemmas.{length-chunks, count-few}
@@ -20,7 +21,6 @@ use Rattle.container_core.proofs.HeaderLemmas.{shape-bounds}
 use Rattle.ranges_core.specs.Reservations.{TakenRange, Adjacent, end_from}
 use Rattle.ranges_core.proofs.Behind.{behind}
 use Rattle.sealer_core.specs.Life.{Acknowledged, IsGrantAt, IsLife, LedgerRun, Lives, Unacknowledged, reserved}
-use Rattle.sealer_core.specs.Nonces.{container_nonces, sealed_by_nonces, stream_nonces}
 use Rattle.sealer_core.specs.Theorem.{Place}
 use Rattle.sealer_core.proofs.Chunks.{nonce_inside, one_nonce}
 

@@ -22,6 +22,7 @@ use Rattle.sha2.specs.Sha256.{sha256}
 use Rattle.io_core.specs.Streams.{IsFront}
 use Rattle.container_core.specs.Chunks.{tag_size}
 use Rattle.container_core.specs.Container.{container, header_of}
+use Rattle.container_core.specs.Nonces.{container_nonces}
 use Rattle.container_core.specs.Shape.{ShapeView, size_of}
 use Rattle.folder_core.specs.Changes.{allowed, new_output, started, stream_name, whole}
 use Rattle.folder_core.specs.Record.{Container, Created, IsSound, Output, RunRecord}
@@ -36,7 +37,6 @@ use Rattle.sqlite_wal.specs.Reads.{AreClean}
 use Rattle.sqlite_wal.specs.Recovery.{Image}
 use Rattle.ranges_core.specs.Reservations.{Lists, next_of}
 use Rattle.reserve_core.specs.NextRun.{AreIn, IsFound, PassesOn}
-use Rattle.sealer_core.specs.Nonces.{container_nonces}
 use Rattle.sealer_core.specs.Sealing.{FoldsFiles, range_asked}
 
 -- ---- a run

@@ -5,10 +5,10 @@ ghost use Rattle.std.specs.Prelude.{◌≡◌, ◌≢◌, ℕ, ◌+◌, ◌^◌,
 ghost use Rattle.journal_core.specs.Range.{prefix_of};
 ghost use Rattle.container_core.specs.Chunks.{chunks};
 ghost use Rattle.container_core.specs.Container.{container, header_of};
+ghost use Rattle.container_core.specs.Nonces.{container_nonces, sealed_by_nonces};
 ghost use Rattle.container_core.specs.Shape.{IsShape, ShapeView, size_of};
 ghost use Rattle.ranges_core.specs.Reservations.{TakenRange};
 ghost use Rattle.sealer_core.specs.Life.{IsGrantAt, IsLife, LedgerRun, Lives, reserved};
-ghost use Rattle.sealer_core.specs.Nonces.{container_nonces, sealed_by_nonces};
 ghost use Rattle.sealer_core.specs.Theorem.{AreRunsOf, IsOutputAt, Place, Run};
 
 /// In the life of a key and device no number is in two of the ranges that its runs reserved.
