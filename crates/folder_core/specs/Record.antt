@@ -26,8 +26,7 @@ pub data State : Type 0 where
   Finished : State
   GivenUp : State
 
--- An output: its name, what it may hold, the bytes that it holds, how many writes to it failed (a refused end is one),
--- and its state.
+-- An output: its name, what it may hold, its bytes, how many writes to it failed (a refused end is one), and its state.
 pub record Output : Type 0 where
   pub name : List ℕ
   pub content : Content
@@ -35,9 +34,8 @@ pub record Output : Type 0 where
   pub failures : ℕ
   pub state : State
 
--- A file was opened for reading, and has these bytes; or it could not be opened. An open file was set back to its first
--- byte, and has these bytes now; or that failed. It was closed, after so many calls of its reader had failed. An output
--- was refused, for this cause.
+-- A file was opened and has these bytes, or it could not be. It was set back to its first byte and has these bytes now,
+-- or that failed. It was closed, after so many calls of its reader had failed. An output was refused, for this cause.
 pub data Event : Type 0 where
   Read : List ℕ → List ℕ → Event
   Unread : List ℕ → Event
@@ -56,8 +54,8 @@ pub record KeyedRange : Type 0 where
   pub key : List ℕ
   pub range : Numbers
 
--- The record of a run: the key and range of its containers, if it has any; its entries in order, outputs where they were
--- created; and the place of the output in hand, if one is. The bytes of that one are known apart, and are in its entry once it is closed.
+-- The record of a run: the key and range of its containers, if it has any; its entries, in order; and the place of the
+-- output in hand, if one is. The bytes of that one are known apart, and are in its entry once it is closed.
 pub record RunRecord : Type 0 where
   pub under : Option KeyedRange
   pub entries : List Entry

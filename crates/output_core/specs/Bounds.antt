@@ -6,16 +6,14 @@ use Rattle.container_core.specs.Container.{container, size_in}
 use Rattle.container_core.specs.Opening.{unsealed_by}
 use Rattle.container_core.specs.Shape.{ShapeView}
 
--- What an output may hold: the bytes `before`, then the container of some plaintext, under a key, in a shape and under
--- a prefix; or exactly the bytes `whole`; or the bytes `before`, then what is opened of the bytes `input`, whose chunks
--- are checked under a key and a header.
+-- What an output may hold: some bytes, then the container of some plaintext, under a key, in a shape and under a prefix; or
+-- exactly these bytes; or some bytes, then what is opened of an input whose chunks are checked under a key and a header.
 pub data Bound : Type 0 where
   Container : List ℕ → List ℕ → ShapeView → List ℕ → Bound
   Exactly : List ℕ → Bound
   Checked : List ℕ → List ℕ → List ℕ → List ℕ → Bound
 
--- The input begins with this header and some chunks, and they open to this under the key, each at its place. Or this is
--- nothing.
+-- The input begins with this header and some chunks that open to this under the key, each at its place; or this is nothing.
 abbrev pub IsChecked : List ℕ → List ℕ → List ℕ → List ℕ → Type 0
 IsChecked key header input plain = (plain ≡ []) ⊎ ((body : List ℕ) × (last : Bool) × IsFront (header ++ body) input
     × (unsealed_by key header 0 last (sealed_chunks (size_in header) body) ≡ Ok plain))

@@ -47,8 +47,7 @@ WasSealed under input bytes = ((entries : List Entry) × (file : List ℕ) × Ha
 
 -- ---- opened
 
--- A call of `open_all` that ended added these entries to the record (its clause `files`). The name of the output may be
--- given.
+-- A call of `open_all` that ended added these entries to the record (its clause `files`). The output's name may be given.
 abbrev pub HasOpenedFiles : List ℕ → Option (List ℕ) → List Entry → Type 0
 HasOpenedFiles key to entries = (names : List (List ℕ)) × (most : ℕ) × (label : Option (List ℕ)) × (status : ℕ)
     × (old : Printed) × (new : Printed) × (before : RunRecord)
@@ -61,8 +60,7 @@ IsOpenedIn to entries file bytes plain =
     IsFinishedAfter (Happened (Read file bytes)) entries (output_for to file) plain
     ⊎ IsFinishedAfter (Happened (Repeated file bytes)) entries (output_for to file) plain
 
--- A call of `unpipe_all`, whose line says `opened`, wrote this plaintext to a stream (its clause `run`). The second and
--- last reading of its file gave these bytes.
+-- A call of `unpipe_all` that ended with `opened` wrote this plaintext (clause `run`). The last reading gave these bytes.
 abbrev pub HasUnpipedTo : List ℕ → List ℕ → List ℕ → Type 0
 HasUnpipedTo key bytes plain = (most : ℕ) × (label : Option (List ℕ)) × (name : List ℕ) × (taken : List ℕ) × (n : ℕ)
     × (new : List Entry) × (content : Option Content)

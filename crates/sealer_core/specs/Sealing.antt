@@ -78,8 +78,7 @@ unissued_as issue_fault.OutOfMemory = Unsealed sealing_fault.OutOfMemory
 
 -- ---- what comes in the record for one file
 
--- What files or a stream are sealed under: a key, a shape and a device. A file may have `most` bytes, a stream `most`
--- chunks.
+-- What is sealed under: a key, a shape and a device; and the most bytes of a file, or chunks of a stream.
 pub record SealedUnder : Type 0 where
   pub key : List ℕ
   pub shape : ShapeView

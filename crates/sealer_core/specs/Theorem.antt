@@ -1,22 +1,19 @@
 -- No nonce is used twice: any runs under one key, and the chunks that their outputs held.
 --
 -- A run is a call of `seal_all` or `pipe_all` at a moment: after it ended, or when it was killed, also within a write. What
--- is known of it is the same in all cases: the record of its outputs, with the bytes that each held. The record is sound:
--- each output holds a prefix of what it may, and no two have one number. A call that reserved no numbers of the key and
--- device, or that ended or was killed before it gave its record the key, wrote nothing under them: it is one of those
--- between two runs.
+-- is known of it is the same in all cases: the record of its outputs, with the bytes that each held. A call that reserved
+-- no numbers of the key and device, or that ended or was killed before it gave its record the key, wrote nothing under
+-- them: it is one of those between two runs.
 --
 -- Assumed is:
--- - The record is known (`rest` and `taken` are `Some`); or, of a `pipe_all` that ended, reader and writer report what
---   they did (`left` and `taken` are). The program's own tell nothing of real files, and can't; but a call can't know
---   which it has, so over them it does the same.
+-- - The record is known (`rest` and `taken` are `Some`); or, of a `pipe_all` that ended, what its reader and writer report
+--   (`left` and `taken`). The program's own tell nothing of real files, and can't; but a call can't know which it has.
 -- - A run's keeper was made of the ledger's files that it found. (`IsFound`.)
 -- - Nobody else writes these files, rolls them back or uses a copy. What happens between two runs passes on the ranges
---   that were found. (`PassesOn`: a run finds what the one before it left.)
+--   that were found. (`PassesOn`: what the files held they still hold.)
 -- - A disk returns what was written to it, and keeps what was synced. (`AreClean`, `outcomes`.)
 -- - No two ledger files share key and device. (All runs of a device are in one list.)
--- - Of killed runs: the ledger file shown to `start` is the call's own. A call that was cut off within a write left a
---   front of its bytes.
+-- - Of killed runs: the ledger file shown to `start` is the call's own. A write that was cut off left a front of its bytes.
 use Rattle.std.specs.Prelude.{◌≡◌, ◌⊎◌, ℕ, suc, ◌+◌, ◌*◌, ◌^◌, ◌<◌, ◌≤◌, List, [], ◌∷◌, length, slice_get, None, Some}
 use Rattle.sha2.specs.Sha256.{sha256}
 use Rattle.io_core.specs.Streams.{IsFront}
@@ -41,8 +38,7 @@ use Rattle.sealer_core.specs.Sealing.{FoldsFiles, range_asked}
 
 -- ---- a run
 
--- A run, over a disk of any type: the ledger's two files as it found them, and as they were left after it, by a crash or
--- without one; and the record of its outputs.
+-- A run, over any disk: the ledger's two files as found, and as left after it, perhaps by a crash; and its outputs' record.
 pub record Run : Type 0 where
   pub start : Image
   pub files : Image
@@ -59,7 +55,6 @@ pub record IsRun (key : List ℕ) (device : ℕ) (run : Run) : Type 0 where
   pub keyed : IsKeyedBy key range run.written
   pub lawful : IsLawfulRange range
   pub of_device : range.device ≡ device
-  -- each output holds a prefix of what it may, and no two have one number
   pub sound : ∥ IsSound run.written ∥₁
   -- the range is after all that the files held before it
   pub behind : (lists : Lists) → AreIn lists run.start → next_of (lists (sha256 key) device) ≤ range.lo
@@ -115,8 +110,7 @@ pub record IsOutputAt (runs : ℕ → List Run) (place : Place) : Type 0 where
   pub shape : ShapeView
   pub content : output.content ≡ Container number shape
 
--- The bytes have some of this chunk, and this is its nonce, in some container under the key that they begin. The chunk's
--- number has 32 bits, as in the format.
+-- The bytes begin some container under the key, and have some of this chunk, whose number has 32 bits; this is its nonce.
 pub record HasChunk (key bytes : List ℕ) (chunk : ℕ) (nonce : List ℕ) : Type 0 where
   pub shape : ShapeView
   pub prefix : List ℕ

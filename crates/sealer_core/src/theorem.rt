@@ -36,7 +36,7 @@ use sqlite_disk::Disk;
 
 /// No nonce is used twice. Take any number of runs of `seal_all` and `pipe_all` under one key, as any devices, each
 /// ended or killed, over any disks. Each found the ledger file of its device as those before it left it, over any crashes
-/// between. That a call is such a run is shown below.
+/// between. `a_call_is_a_run` shows that a call is such a run.
 ///
 /// `sealed`: what each output held that may hold a container begins one under the key, under its number of its run's range.
 /// So these bytes are a header and chunks in order, the last perhaps cut, each sealed by the AEAD under the nonce at its
