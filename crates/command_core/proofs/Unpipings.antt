@@ -6,6 +6,7 @@ use Rattle.container_core.specs.declared.fault.OpenFault.{OpenFault}
 use Rattle.container_core.specs.declared.fault.OpenFault.TheVariants as bytes
 use Rattle.container_core.specs.Faults.{IsOfBytes}
 use Rattle.io_core.specs.Streams.{counted}
+use Rattle.io_core.specs.Views.{io_view}
 use Rattle.opening_core.specs.declared.twice.Stopped.{Stopped}
 use Rattle.opening_core.specs.declared.twice.Stopped.TheVariants as stop
 use Rattle.opening_core.specs.Engine.{HasHeader}
@@ -152,13 +153,13 @@ gives_last key header most label name place left next before one two (Some r) he
         )
 
 pub opened_unpiped : (key header : List ℕ) (most n : ℕ) (label : Option (List ℕ)) (name : List ℕ) (place : ℕ)
-    (left next taken taken' : Option (List ℕ)) (reads reads' failures failures' : Option ℕ) (before one two three : Option RunRecord)
+    (left next next' taken taken' : Option (List ℕ)) (reads reads' failures failures' : Option ℕ) (before one two three : Option RunRecord)
     → IfSome left (IsHeaded key most label header) → ((input : List ℕ) → HasHeader header input → IsLabelled label input)
     → IsAllowedAgain place key header next two three
-    → HasWrittenAgain key header most next taken taken' reads reads' failures failures' (Ok n)
+    → HasWrittenAgain key header most (io_view next reads taken failures) (io_view next' reads' taken' failures') (Ok n)
     → TellsBytes (Repeated name) next one two → TellsBytes (Read name) left before one
     → HasUnpipedRead key most label name place (outputs_view before taken failures) (outputs_view three taken' failures') (Opened n)
-opened_unpiped key header most n label name place left next taken taken' reads reads' failures failures' before one two three
+opened_unpiped key header most n label name place left next next' taken taken' reads reads' failures failures' before one two three
     headed labelled may wrote again tells =
     let (input, has, (whole, ok, grew, long), is) = wrote.written in record {
       works = giving_to place (GivesLast key most label name header next) (UnpipesRead key most label name taken taken' (Opened n))
@@ -195,13 +196,13 @@ stopped_kept key header most left taken taken' stop.Changed why = tt
 stopped_kept key header most left taken taken' (stop.Broken f) why = λ of. absurd (why of)
 
 pub stopped_unpiped : (key header : List ℕ) (most : ℕ) (label : Option (List ℕ)) (name : List ℕ) (place : ℕ)
-    (left next taken taken' : Option (List ℕ)) (reads reads' failures failures' : Option ℕ) (stopped : Stopped)
+    (left next next' taken taken' : Option (List ℕ)) (reads reads' failures failures' : Option ℕ) (stopped : Stopped)
     (before one two three : Option RunRecord) → IfSome left (IsHeaded key most label header) → IsAllowedAgain place key header next two three
-    → HasWrittenAgain key header most next taken taken' reads reads' failures failures' (Err stopped)
+    → HasWrittenAgain key header most (io_view next reads taken failures) (io_view next' reads' taken' failures') (Err stopped)
     → TellsBytes (Repeated name) next one two → TellsBytes (Read name) left before one
     → HasUnpipedRead key most label name place (outputs_view before taken failures) (outputs_view three taken' failures')
     (Failed (fault_of_stop stopped))
-stopped_unpiped key header most label name place left next taken taken' reads reads' failures failures' stopped before one two three
+stopped_unpiped key header most label name place left next next' taken taken' reads reads' failures failures' stopped before one two three
     headed may wrote again tells =
     let why : IsAgainFault key header most next stopped = stop_of key most header next stopped (λ e. wrote.changed (ap Err e))
     (λ fault e. wrote.checked_before fault (ap Err e)) (λ fault e. wrote.broken fault (ap Err e)) in record {

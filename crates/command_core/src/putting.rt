@@ -5,6 +5,7 @@
 //! or the plaintext that an output may hold.
 ghost use Rattle.std.specs.Prelude.{◌≡◌, ℕ, List, Some, IfSome, OnErr, OnOk, false, is_err, option_map};
 ghost use Rattle.io_core.specs.Streams.{Appends, AppendsFront, counted};
+ghost use Rattle.io_core.specs.Views.{io_view};
 ghost use Rattle.opening_core.specs.Twice.{HasWrittenAgain, MayWrite};
 ghost use Rattle.opening_core.specs.Workers.{AreWorkers};
 ghost use Rattle.output_core.specs.Bounds.{Admits};
@@ -153,8 +154,9 @@ fn again_named<'f, 'b, 'a, N: Rest, T: Threads + Clock + Sync, F: OpeningFolder>
     ensures rest { F.rest result.1.now ≡ N.rest }
     ensures reference { result.1.ghost_name ≡ folder.entry.ghost_name }
     ensures written { HasWrittenAgain context.now.key.now header.now context.now.options.now.max_bytes
-        (F.Reader.left reader.old) (F.taken folder.old) (F.taken result.1.now) (F.Reader.failures reader.old)
-        (F.Reader.failures reader.new) (F.failures folder.old) (F.failures result.1.now) result.0 }
+        (io_view (F.Reader.left reader.old) (F.Reader.failures reader.old) (F.taken folder.old) (F.failures folder.old))
+        (io_view (F.Reader.left reader.new) (F.Reader.failures reader.new) (F.taken result.1.now)
+        (F.failures result.1.now)) result.0 }
 {
     let FilesContext {
         alloc,
@@ -190,8 +192,9 @@ pub(crate) fn fill_again<'b, 'a, T: Threads + Clock + Sync, F: OpeningFolder>(
         context.now.options.now.max_bytes (F.Reader.left reader.old) (F.taken folder.old)) }
     ensures rest { F.rest folder.new ≡ F.rest folder.old }
     ensures written { HasWrittenAgain context.now.key.now header.now context.now.options.now.max_bytes
-        (F.Reader.left reader.old) (F.taken folder.old) (F.taken folder.new) (F.Reader.failures reader.old)
-        (F.Reader.failures reader.new) (F.failures folder.old) (F.failures folder.new) result }
+        (io_view (F.Reader.left reader.old) (F.Reader.failures reader.old) (F.taken folder.old) (F.failures folder.old))
+        (io_view (F.Reader.left reader.new) (F.Reader.failures reader.new) (F.taken folder.new) (F.failures folder.new))
+        result }
 {
     let (done, _) = again_named::<Brand, T, F>(rt, context, folder, header, reader, workers);
     done

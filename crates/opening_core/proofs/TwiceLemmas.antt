@@ -7,6 +7,7 @@ use Rattle.std.proofs.lemmas.Result.{IfOk-weaker}
 use lib.Pointwise.{pointwise}
 use lib.Dec.{eqb}
 use Rattle.io_core.specs.Streams.{Appends, Consumes, IsAtEnd, IsFront, Keeps, counted}
+use Rattle.io_core.specs.Views.{io_view}
 use Rattle.container_core.specs.declared.fault.OpenFault.{OpenFault}
 use Rattle.container_core.specs.declared.fault.OpenFault.TheVariants as opening_fault
 use Rattle.container_core.specs.Faults.{IsOfBytes}
@@ -78,7 +79,7 @@ all-given key front plain most (Some input) (Some rest) left'' says first a =
 pub again-written : (key front header : List ℕ) (most n : ℕ) (left left' left'' a c : Option (List ℕ)) (r r' w w' : Option ℕ)
     → front ≡ header → SaysLength key front → Consumes left left' front
     → (plain : List ℕ) × (n ≡ length plain) × Answers key front most left' left'' (Ok plain) × Appends a c plain
-    → r' ≡ r → w' ≡ w → HasWrittenAgain key header most left a c r r' w w' (Ok n)
+    → r' ≡ r → w' ≡ w → HasWrittenAgain key header most (io_view left r a w) (io_view left'' r' c w') (Ok n)
 again-written key front header most n left left' left'' a c r r' w w' same says first wrote read write = record {
   written = (
     front ++ wrote.2.read,
@@ -101,7 +102,7 @@ pub again-stopped : (key front header : List ℕ) (most : ℕ) (fault : OpenFaul
     → (IsOfBytes fault → Answers key front most left' left'' (Err fault))
     → (stop ≡ Changed → IsOfBytes fault) → ((f : OpenFault) → stop ≡ Broken f → IsOfBytes f → ⊥) → ((f : OpenFault) → stop ≡ Refused f → ⊥)
     → r' ≡ counted (broken_by_read (Err stop)) r → w' ≡ counted (broken_by_write (Err stop)) w
-    → HasWrittenAgain key header most left a c r r' w w' (Err stop)
+    → HasWrittenAgain key header most (io_view left r a w) (io_view left'' r' c w') (Err stop)
 again-stopped key front header most fault stop left left' left'' a c r r' w w' same says first begun sent refused changed broken before read write = record {
   written = tt;
   begun = begun-all key front most left left' a c first begun;
@@ -150,7 +151,7 @@ one-header one other input p q = p.0 ∙ sym q.0
 
 -- another header
 pub again-other : (key front header : List ℕ) (most : ℕ) (left left' a : Option (List ℕ)) (r r' w : Option ℕ) → SaysLength key front
-    → Consumes left left' front → (front ≡ header → ⊥) → r' ≡ r → HasWrittenAgain key header most left a a r r' w w (Err Changed)
+    → Consumes left left' front → (front ≡ header → ⊥) → r' ≡ r → HasWrittenAgain key header most (io_view left r a w) (io_view left' r' a w) (Err Changed)
 again-other key front header most left left' a r r' w says first differs read = record {
   written = tt;
   begun = nothing-written key most left a;
@@ -163,12 +164,12 @@ again-other key front header most left left' a r r' w says first differs read = 
 }
 
 -- a fault of the header, or of its reading
-pub again-front : (key header : List ℕ) (most : ℕ) (fault : OpenFault) (stop : Stopped) (left a : Option (List ℕ)) (r r' w : Option ℕ)
+pub again-front : (key header : List ℕ) (most : ℕ) (fault : OpenFault) (stop : Stopped) (left left' a : Option (List ℕ)) (r r' w : Option ℕ)
     → (IsOfBytes fault → IfSome left (λ input. opening key most input ≡ Err fault))
     → (stop ≡ Changed → IsOfBytes fault) → ((f : OpenFault) → stop ≡ Broken f → IsOfBytes f → ⊥) → ((f : OpenFault) → stop ≡ Refused f → ⊥)
     → r' ≡ counted (broken_by_read (Err stop)) r → broken_by_write (Err stop) ≡ false
-    → HasWrittenAgain key header most left a a r r' w w (Err stop)
-again-front key header most fault stop left a r r' w refused changed broken before read unwritten = record {
+    → HasWrittenAgain key header most (io_view left r a w) (io_view left' r' a w) (Err stop)
+again-front key header most fault stop left left' a r r' w refused changed broken before read unwritten = record {
   written = tt;
   begun = nothing-written key most left a;
   checked = inl (Keeps-refl a);
@@ -210,13 +211,13 @@ broken-read (Err (Broken opening_fault.Read)) none = refl
 broken-read (Err (Broken _)) none = refl
 
 -- the second reading ended it
-pub twice-done : (key header : List ℕ) (most n : ℕ) (bytes left bytes' left' a c : Option (List ℕ)) (f f' r r' w w' : Option ℕ)
+pub twice-done : (key header : List ℕ) (most n : ℕ) (bytes left bytes' left' left'' bytes'' a c : Option (List ℕ)) (f f' r r' w w' : Option ℕ)
     (result : Result ℕ Stopped)
     → Keeps bytes left → Keeps bytes bytes' → Keeps bytes' left'
     → IfSome left (HasHeader header) → IfSome left (λ input. OpensTo key most input n)
-    → HasWrittenAgain key header most left' a c f f' w w' result → CountsOn (broken_by_read result) r r'
-    → HasOpenedTwice key most bytes a c r r' w w' result
-twice-done key header most n bytes left bytes' left' a c f f' r r' w w' result kept still again named opens wrote counts = record {
+    → HasWrittenAgain key header most (io_view left' f a w) (io_view left'' f' c w') result → CountsOn (broken_by_read result) r r'
+    → HasOpenedTwice key most (io_view bytes r a w) (io_view bytes'' r' c w') result
+twice-done key header most n bytes left bytes' left' left'' bytes'' a c f f' r r' w w' result kept still again named opens wrote counts = record {
   written = IfOk-weaker result _ _ (λ k w. (w.0, w.2, back _ w.3)) wrote.written;
   unwritten = λ f e. absurd (wrote.checked_before f e);
   refused = λ f e own. absurd (wrote.checked_before f e);

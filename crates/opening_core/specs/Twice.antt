@@ -6,6 +6,7 @@ use Rattle.container_core.specs.declared.fault.OpenFault.TheVariants as opening_
 use Rattle.container_core.specs.Faults.{IsOfBytes}
 use Rattle.container_core.specs.Opening.{opening}
 use Rattle.io_core.specs.Streams.{Appends, AppendsFront, Keeps, counted}
+use Rattle.io_core.specs.Views.{IoView}
 use Rattle.opening_core.specs.declared.twice.Stopped.{Stopped}
 use Rattle.opening_core.specs.declared.twice.Stopped.TheVariants.{Refused, Changed, Broken}
 use Rattle.opening_core.specs.Engine.{HasHeader}
@@ -44,47 +45,46 @@ abbrev pub WritesSome : List ℕ → ℕ → Option (List ℕ) → Option (List 
 WritesSome key most taken taken' input =
     (plain : List ℕ) → opening key most input ≡ Ok plain → AppendsFront taken taken' plain
 
--- What a second reading did, of a container with this header that a first one checked. Its reader had `left` left, and
--- its writer had taken `taken` before and `taken'` after. For both, failed calls are counted.
-pub record HasWrittenAgain (key header : List ℕ) (most : ℕ) (left taken taken' : Option (List ℕ))
-    (reads reads' writes writes' : Option ℕ) (result : Result ℕ Stopped) : Type 0 where
+-- What a second reading did, of a container with this header that a first one checked.
+pub record HasWrittenAgain (key header : List ℕ) (most : ℕ) (old new : IoView) (result : Result ℕ Stopped)
+    : Type 0 where
   -- a container with the header of the first reading was given, and nothing else, and its whole plaintext was written
-  pub written : IfOk result (λ n. (input : List ℕ) × HasHeader header input × WritesAll key most taken taken' input n
-      × IfSome left (λ bytes. bytes ≡ input))
+  pub written : IfOk result (λ n. (input : List ℕ) × HasHeader header input
+      × WritesAll key most old.taken new.taken input n × IfSome old.left (λ bytes. bytes ≡ input))
   -- else a prefix of it, where it has one
-  pub begun : OnErr result (IfSome left (WritesSome key most taken taken'))
+  pub begun : OnErr result (IfSome old.left (WritesSome key most old.taken new.taken))
   -- whatever it gave, each byte that was written is of a chunk that was checked, under that header and at its place
-  pub checked : OnErr result (Keeps taken taken' ⊎ HasSent key header header left taken taken')
+  pub checked : OnErr result (Keeps old.taken new.taken ⊎ HasSent key header header old.left old.taken new.taken)
   -- it gave other bytes: they don't open, or have another header
-  pub changed : result ≡ Err Changed → IfSome left (λ input. (plain : List ℕ) → HasHeader header input
+  pub changed : result ≡ Err Changed → IfSome old.left (λ input. (plain : List ℕ) → HasHeader header input
       → opening key most input ≡ Ok plain → ⊥)
   -- no fault is one of the first reading
   pub checked_before : (fault : OpenFault) → result ≡ Err (Refused fault) → ⊥
   -- what broke it off is no fault of the bytes: it is Read or Write exactly where a call failed
   pub broken : (fault : OpenFault) → result ≡ Err (Broken fault) → IsOfBytes fault → ⊥
-  pub read : reads' ≡ counted (broken_by_read result) reads
-  pub write : writes' ≡ counted (broken_by_write result) writes
+  pub read : new.read_failures ≡ counted (broken_by_read result) old.read_failures
+  pub write : new.write_failures ≡ counted (broken_by_write result) old.write_failures
 
--- What an opening by two readings did. Each reading gives `bytes`, where they are known. Failed calls are counted, of both
--- readings and of the writer.
-pub record HasOpenedTwice (key : List ℕ) (most : ℕ) (bytes taken taken' : Option (List ℕ))
-    (reads reads' writes writes' : Option ℕ) (result : Result ℕ Stopped) : Type 0 where
+-- What an opening by two readings did. Each reading gives `old.left`, where that is known. Failed reads are those of
+-- both.
+pub record HasOpenedTwice (key : List ℕ) (most : ℕ) (old new : IoView) (result : Result ℕ Stopped) : Type 0 where
   -- the bytes are a container, and what was written is its plaintext (where the bytes aren't known: that of some)
-  pub written : IfOk result (λ n. (input : List ℕ) × WritesAll key most taken taken' input n
-      × IfSome bytes (λ known. known ≡ input))
+  pub written : IfOk result (λ n. (input : List ℕ) × WritesAll key most old.taken new.taken input n
+      × IfSome old.left (λ known. known ≡ input))
   -- at a refusal nothing was written, and a fault of the bytes is the first that they have
-  pub unwritten : (fault : OpenFault) → result ≡ Err (Refused fault) → Keeps taken taken'
+  pub unwritten : (fault : OpenFault) → result ≡ Err (Refused fault) → Keeps old.taken new.taken
   pub refused : (fault : OpenFault) → result ≡ Err (Refused fault) → IsOfBytes fault
-      → IfSome bytes (λ input. opening key most input ≡ Err fault)
+      → IfSome old.left (λ input. opening key most input ≡ Err fault)
   -- where it was broken off after the check, the bytes are a container, and a prefix of its plaintext was written
   pub begun : (fault : OpenFault) → result ≡ Err (Broken fault)
-      → IfSome bytes (λ input. (plain : List ℕ) × (opening key most input ≡ Ok plain) × AppendsFront taken taken' plain)
+      → IfSome old.left
+      (λ input. (plain : List ℕ) × (opening key most input ≡ Ok plain) × AppendsFront old.taken new.taken plain)
   pub broken : (fault : OpenFault) → result ≡ Err (Broken fault) → IsOfBytes fault → ⊥
   -- it is Read or Write exactly where a call failed; each reading was ended
-  pub read : CountsOn (stopped_by_read result) reads reads'
-  pub write : writes' ≡ counted (broken_by_write result) writes
+  pub read : CountsOn (stopped_by_read result) old.read_failures new.read_failures
+  pub write : new.write_failures ≡ counted (broken_by_write result) old.write_failures
   -- readings that give the same bytes don't differ
-  pub same : result ≡ Err Changed → IfSome bytes (λ _. ⊥)
+  pub same : result ≡ Err Changed → IfSome old.left (λ _. ⊥)
 
 -- A bounded output may hold, after what it took, what is opened of the input, as far as its chunks are checked under the
 -- header of the first reading. Or the input opens, and it may hold the plaintext.

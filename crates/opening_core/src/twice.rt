@@ -11,6 +11,7 @@ ghost use Rattle.container_core.specs.Container.{size_in};
 ghost use Rattle.container_core.specs.Faults.{IsOfBytes};
 ghost use Rattle.container_core.specs.Opening.{longest};
 ghost use Rattle.io_core.specs.Streams.{Appends, Keeps, counted};
+ghost use Rattle.io_core.specs.Views.{io_view};
 ghost use Rattle.opening_core.specs.Engine.{open_read_failed, open_write_failed};
 ghost use Rattle.opening_core.specs.Fronts.{Answers, SaysLength};
 ghost use Rattle.opening_core.specs.Workers.{AreWorkers};
@@ -151,9 +152,9 @@ pub fn write_again<'b, 'a, T: Threads + Clock + Sync, R: Source, W: Output + Dro
     requires workers { AreWorkers workers }
     requires may { IfSome (W.bound writer)
         (MayWrite key.now header.now max_bytes (R.left reader.old) (W.taken writer)) }
-    ensures { HasWrittenAgain key.now header.now max_bytes (R.left reader.old)
-        (W.taken writer) (W.taken result.1) (R.failures reader.old) (R.failures reader.new)
-        (W.failures writer) (W.failures result.1) result.0 }
+    ensures { HasWrittenAgain key.now header.now max_bytes
+        (io_view (R.left reader.old) (R.failures reader.old) (W.taken writer) (W.failures writer))
+        (io_view (R.left reader.new) (R.failures reader.new) (W.taken result.1) (W.failures result.1)) result.0 }
 {
     let again = match open_front(key, reader, max_bytes) {
         Ok(again) => again,
@@ -188,8 +189,9 @@ pub fn run_open_twice<T: Threads + Clock + Sync, S: Readings, W: Output + Drop, 
     requires max_bytes { max_bytes ≤ MAX_OPENED }
     requires workers { (0 < workers) × (workers ≤ MAX_WORKERS) }
     requires may { IfSome (W.bound writer) (MayWriteIt key.now max_bytes (S.bytes source.old) (W.taken writer)) }
-    ensures { HasOpenedTwice key.now max_bytes (S.bytes source.old) (W.taken writer) (W.taken result.1)
-        (S.failures source.old) (S.failures source.new) (W.failures writer) (W.failures result.1) result.0 }
+    ensures { HasOpenedTwice key.now max_bytes
+        (io_view (S.bytes source.old) (S.failures source.old) (W.taken writer) (W.failures writer))
+        (io_view (S.bytes source.new) (S.failures source.new) (W.taken result.1) (W.failures result.1)) result.0 }
 {
     let Ok(mut first) = source.begin() else {
         return (Err(Stopped::Refused(OpenFault::Read)), writer);

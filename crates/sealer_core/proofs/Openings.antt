@@ -4,7 +4,8 @@ use Rattle.std.proofs.lemmas.List.{append_cancel_left}
 use Rattle.std.proofs.lemmas.List.Elements.{All-weaker}
 use Rattle.std.specs.Prelude.{IfSome, flat_map, slice_get}
 use Rattle.io_core.specs.Streams.{Appends}
-use Rattle.sealing_core.specs.Piped.{HasPipedContainer, StreamView}
+use Rattle.io_core.specs.Views.{IoView}
+use Rattle.sealing_core.specs.Piped.{HasPipedContainer}
 use Rattle.container_core.specs.Chunks.{chunks}
 use Rattle.container_core.specs.Container.{container, header_of, shape_in}
 use Rattle.container_core.specs.Opening.{opening}
@@ -88,7 +89,7 @@ long_enough key shape prefix plain seven =
 abbrev IsContainerOf : SealedUnder → List ℕ → List ℕ → Type 0
 IsContainerOf under input bytes = IsShape under.shape × (number : ℕ) × (bytes ≡ container_by under number input)
 
-sealed_stream : (under : SealedUnder) (input taken bytes : List ℕ) (old new : StreamView) (number count : ℕ) → old.left ≡ Some input → old.taken ≡ Some taken → new.taken ≡ Some (taken ++ bytes)
+sealed_stream : (under : SealedUnder) (input taken bytes : List ℕ) (old new : IoView) (number count : ℕ) → old.left ≡ Some input → old.taken ≡ Some taken → new.taken ≡ Some (taken ++ bytes)
     → HasPipedContainer under.key under.shape (prefix_of under.device number) under.most old new (Ok count) → bytes ≡ container_by under number input
 sealed_stream under input taken bytes old new number count had took then piped =
     let whole = container_by under number input in

@@ -17,6 +17,7 @@ use Rattle.ledger_core.specs.declared.fault.IssueFault.TheVariants as issue_faul
 use Rattle.ledger_core.specs.Closing.{AreAllSeats}
 use Rattle.ledger_core.specs.Shared.{Extends, GrantView, Holds, IsSameSeat, Knows, LedgerView, SeatView, spent_as}
 use Rattle.output_core.specs.Bounds.{Admits}
+use Rattle.io_core.specs.Views.{io_view}
 use Rattle.sealing_core.specs.Engine.{BeginsContainer, HasReadPlain, HasWrittenRounds}
 use Rattle.folder_core.specs.declared.fault.FolderFault.{FolderFault}
 use Rattle.folder_core.specs.declared.fault.FolderFault.TheVariants as folder_fault
@@ -280,7 +281,7 @@ module _ (u : SealedUnder) (number : ℕ) (output : List ℕ) (window place : �
         state place start taken zero failures before created ready filled after idle at new may fresh same closes known (λ was. makes)
 
     ends_at : (sealed : Result ℕ SealFault) (outcome : FileOutcome) → HasReadPlain u.most left left' reads reads' sealed
-        → HasWrittenRounds u.key u.shape (prefix_of u.device number) u.most window left left' start taken zero failures sealed
+        → HasWrittenRounds u.key u.shape (prefix_of u.device number) u.most window (io_view left reads start zero) (io_view left' reads' taken failures) sealed
         → sealed ≢ Err fault_of.TooManyChunks → EndsBy sealed number outcome → ClosesBy sealed outcome filled taken failures after
         → Grows (PutsLeft u output left outcome (void_at number outcome)) before after
     ends_at (Ok bytes) (Sealed n long) read wrote few (same, count) closes =
@@ -300,10 +301,10 @@ module _ (u : SealedUnder) (number : ℕ) (output : List ℕ) (window place : �
 
     pub sealed_ends : (device spent : ℕ) (sealed : Result ℕ SealFault) (outcome : FileOutcome) → device ≡ u.device → spent ≡ number
         → HasReadPlain u.most left left' reads reads' sealed
-        → HasWrittenRounds u.key u.shape (prefix_of device number) u.most window left left' start taken zero failures sealed
+        → HasWrittenRounds u.key u.shape (prefix_of device number) u.most window (io_view left reads start zero) (io_view left' reads' taken failures) sealed
         → sealed ≢ Err fault_of.TooManyChunks → EndsBy sealed spent outcome → ClosesBy sealed outcome filled taken failures after
         → Grows (PutsLeft u output left outcome (void_at number outcome)) before after
     sealed_ends device spent sealed outcome of is read wrote few end closes =
         ends_at sealed outcome read
-        (subst (λ d. HasWrittenRounds u.key u.shape (prefix_of d number) u.most window left left' start taken zero failures sealed) of wrote)
+        (subst (λ d. HasWrittenRounds u.key u.shape (prefix_of d number) u.most window (io_view left reads start zero) (io_view left' reads' taken failures) sealed) of wrote)
         few (subst (λ n. EndsBy sealed n outcome) is end) closes

@@ -2,7 +2,8 @@
 use Rattle.std.proofs.Common.{◌≡◌, ◌∙◌, ℕ, List, [], ◌∷◌, Option, None, Some, Result, refl, sym, ap, ap₂, subst}
 use Rattle.std.specs.Prelude.{IfSome, option_map}
 use Rattle.container_core.specs.declared.fault.SealFault.{SealFault}
-use Rattle.sealing_core.specs.Piped.{HasPipedContainer, StreamView, stream_view}
+use Rattle.io_core.specs.Views.{IoView, io_view}
+use Rattle.sealing_core.specs.Piped.{HasPipedContainer}
 use Rattle.journal_core.specs.declared.entry.Entry.{Entry}
 use Rattle.journal_core.specs.declared.terms.Terms.{Terms}
 use Rattle.journal_core.specs.History.{Legal}
@@ -49,14 +50,14 @@ works_failed under place v why fault is = subst (λ f. WorksStream under place v
 pub pipes : (under : SealedUnder) (place number device : ℕ) (left left' : Option (List ℕ)) (reads reads' : Option ℕ) (taken ready taken' : Option (List ℕ))
     (failures between failures' : Option ℕ) (before allows after : Option RunRecord) (result : Result ℕ SealFault)
     → (ready ≡ taken) × (between ≡ failures) → device ≡ under.device → Becomes (allowed place (Container number under.shape)) before allows → after ≡ allows
-    → HasPipedContainer under.key under.shape (prefix_of device number) under.most (stream_view left reads ready between) (stream_view left' reads' taken' failures') result
-    → Pipes under place (record { stream = stream_view left reads taken failures; rest = before }) (record { stream = stream_view left' reads' taken' failures'; rest = after })
+    → HasPipedContainer under.key under.shape (prefix_of device number) under.most (io_view left reads ready between) (io_view left' reads' taken' failures') result
+    → Pipes under place (record { stream = io_view left reads taken failures; rest = before }) (record { stream = io_view left' reads' taken' failures'; rest = after })
     number result
 pipes under place number device left left' reads reads' taken ready taken' failures between failures' before allows after result same of allows_it is did = (
   subst (Becomes (allowed place (Container number under.shape)) before) (sym is) allows_it,
-  subst (λ d. HasPipedContainer under.key under.shape (prefix_of d number) under.most (stream_view left reads taken failures) (stream_view left' reads' taken' failures') result) of
-      (subst (λ v. HasPipedContainer under.key under.shape (prefix_of device number) under.most v (stream_view left' reads' taken' failures') result)
-      (ap₂ (stream_view left reads) same.0 same.1) did),
+  subst (λ d. HasPipedContainer under.key under.shape (prefix_of d number) under.most (io_view left reads taken failures) (io_view left' reads' taken' failures') result) of
+      (subst (λ v. HasPipedContainer under.key under.shape (prefix_of device number) under.most v (io_view left' reads' taken' failures') result)
+      (ap₂ (io_view left reads) same.0 same.1) did),
 )
 
 -- ---- the run
@@ -70,7 +71,7 @@ module _ (key : List ℕ) (range : Numbers) (before mid : Option RunRecord) (cam
       let (was, known, begun) = subst (Becomes (started key range) before) is_mid came in
       (m, ap (option_map (started key range)) known ∙ ap Some (sym begun), is)
 
-  works_since : (under : SealedUnder) (place : ℕ) (stream : StreamView) (new : PipeView) (outcome : FileOutcome) (voids : List ℕ)
+  works_since : (under : SealedUnder) (place : ℕ) (stream : IoView) (new : PipeView) (outcome : FileOutcome) (voids : List ℕ)
       → WorksStream under place (record { stream = stream; rest = mid }) new outcome voids
       → WorksStream under place (record { stream = stream; rest = option_map (started key range) before }) new outcome voids
   works_since under place stream new (Sealed number bytes) voids (none, (became, did)) = (none, (becomes_since _ new.rest became, did))
@@ -80,7 +81,7 @@ module _ (key : List ℕ) (range : Numbers) (before mid : Option RunRecord) (cam
   works_since under place stream new outcome voids works = absurd works
 
 -- over the whole history
-pub has_stream : (under : SealedUnder) (place : ℕ) (key : List ℕ) (ledger : LedgerView) (terms : Terms) (seats : List SeatView) (history : List Entry) (stream ready : StreamView)
+pub has_stream : (under : SealedUnder) (place : ℕ) (key : List ℕ) (ledger : LedgerView) (terms : Terms) (seats : List SeatView) (history : List Entry) (stream ready : IoView)
     (before mid : Option RunRecord) (new : PipeView) (outcome : FileOutcome) (status : ℕ) (old line : Printed)
     → ledger.terms ≡ terms → ready ≡ stream → Becomes (started key terms.range) before mid → AreAllSeats ledger seats → IsWhole ledger.terms seats history
     → IsPiped under place (record { stream = ready; rest = mid }) new (operations_of seats) outcome

@@ -2,7 +2,8 @@
 use Rattle.std.specs.Prelude.{◌≡◌, ◌<◌, ◌≤◌, ℕ, Bool, true, false, List, [], ◌∷◌, Option, Result, Ok, Err}
 use Rattle.container_core.specs.declared.fault.SealFault.{SealFault}
 use Rattle.container_core.specs.declared.fault.SealFault.TheVariants as sealing_fault
-use Rattle.sealing_core.specs.Piped.{HasPipedContainer, StreamView, stream_view}
+use Rattle.io_core.specs.Views.{IoView, io_view}
+use Rattle.sealing_core.specs.Piped.{HasPipedContainer}
 use Rattle.journal_core.specs.declared.entry.Entry.{Entry}
 use Rattle.journal_core.specs.declared.terms.Terms.{Terms}
 use Rattle.journal_core.specs.History.{Legal}
@@ -30,12 +31,12 @@ pub record IsLawfulPipe (options : PipeOptions) : Type 0 where
 
 -- A stream at a moment, and the record of its run but for the bytes of the output in hand.
 pub record PipeView : Type 0 where
-  pub stream : StreamView
+  pub stream : IoView
   pub rest : Option RunRecord
 
 abbrev pub pipe_view : Option (List ℕ) → Option ℕ → Option (List ℕ) → Option ℕ → Option RunRecord → PipeView
 pipe_view left read_failures taken write_failures rest =
-    record { stream = stream_view left read_failures taken write_failures; rest = rest }
+    record { stream = io_view left read_failures taken write_failures; rest = rest }
 
 -- The output at this place is the stream, which was such, and is such now. It may have as many chunks as `under` says.
 module _ (under : SealedUnder) (place : ℕ) (old new : PipeView) where

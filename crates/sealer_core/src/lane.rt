@@ -7,6 +7,7 @@ ghost use Rattle.journal_core.specs.declared.entry.Way.{Way};
 ghost use Rattle.journal_core.specs.declared.entry.Way.TheVariants.{Sealed, Void};
 ghost use Rattle.journal_core.specs.Range.{prefix_of};
 ghost use Rattle.io_core.specs.Streams.{counted};
+ghost use Rattle.io_core.specs.Views.{io_view};
 ghost use Rattle.output_core.specs.Bounds.{Admits};
 ghost use Rattle.sealing_core.specs.Engine.{HasReadPlain, HasWrittenRounds};
 ghost use Rattle.ledger_core.specs.Closing.{AreAllSeats};
@@ -163,8 +164,9 @@ fn container_named<'f, N: Rest, T: Threads + Wait + Sync, R: Source, F: Outputs>
         (R.failures reader.old) (R.failures reader.new) result.0 }
     ensures writes { HasWrittenRounds context.now.key.now context.now.options.now.shape.now
         (prefix_of grant.device grant.number) context.now.options.now.max_bytes context.now.options.now.window
-        (R.left reader.old) (R.left reader.new) (F.taken folder.old) (F.taken result.2.now) (F.failures folder.old)
-        (F.failures result.2.now) result.0 }
+        (io_view (R.left reader.old) (R.failures reader.old) (F.taken folder.old) (F.failures folder.old))
+        (io_view (R.left reader.new) (R.failures reader.new) (F.taken result.2.now) (F.failures result.2.now))
+        result.0 }
     ensures by_bytes { result.0 ≢ Err SealFault.TooManyChunks }
     ensures sealed { OnOk result.0 (result.1 ≡ spent_as grant Sealed) }
     ensures void { OnErr result.0 (result.1 ≡ spent_as grant Void) }
@@ -205,8 +207,8 @@ fn fill_container<T: Threads + Wait + Sync, R: Source, F: Outputs>(
         (R.failures reader.old) (R.failures reader.new) result.0 }
     ensures writes { HasWrittenRounds context.now.key.now context.now.options.now.shape.now
         (prefix_of grant.device grant.number) context.now.options.now.max_bytes context.now.options.now.window
-        (R.left reader.old) (R.left reader.new) (F.taken folder.old) (F.taken folder.new) (F.failures folder.old)
-        (F.failures folder.new) result.0 }
+        (io_view (R.left reader.old) (R.failures reader.old) (F.taken folder.old) (F.failures folder.old))
+        (io_view (R.left reader.new) (R.failures reader.new) (F.taken folder.new) (F.failures folder.new)) result.0 }
     ensures by_bytes { result.0 ≢ Err SealFault.TooManyChunks }
     ensures sealed { OnOk result.0 (result.1 ≡ spent_as grant Sealed) }
     ensures void { OnErr result.0 (result.1 ≡ spent_as grant Void) }

@@ -11,8 +11,9 @@ ghost use Rattle.journal_core.specs.Range.{IsLawfulRange, Numbers, prefix_of};
 ghost use Rattle.journal_core.specs.Text.{journal_text};
 ghost use Rattle.ledger_core.specs.Closing.{AreAllSeats};
 ghost use Rattle.ledger_core.specs.Shared.{fresh_seats, IsSameSeat, spent_as};
+ghost use Rattle.io_core.specs.Views.{io_view};
 ghost use Rattle.output_core.specs.Bounds.{Admits};
-ghost use Rattle.sealing_core.specs.Piped.{HasPipedContainer, stream_view};
+ghost use Rattle.sealing_core.specs.Piped.{HasPipedContainer};
 ghost use Rattle.folder_core.specs.Changes.{IsFresh, IsNewStream, IsUnstarted, started};
 ghost use Rattle.folder_core.specs.Record.{bound_in};
 ghost use Rattle.command_core.specs.Printing.{Complains};
@@ -78,8 +79,8 @@ fn stream_named<'w, N: Rest, T: Threads + Wait + Sync, R: Source, W: Outputs>(
     ensures reference { result.2.ghost_name ≡ writer.entry.ghost_name }
     ensures pipes { HasPipedContainer context.now.key.now context.now.options.now.shape.now
         (prefix_of grant.device grant.number) context.now.options.now.max_chunks
-        (stream_view (R.left reader.old) (R.failures reader.old) (W.taken writer.old) (W.failures writer.old))
-        (stream_view (R.left reader.new) (R.failures reader.new) (W.taken result.2.now) (W.failures result.2.now))
+        (io_view (R.left reader.old) (R.failures reader.old) (W.taken writer.old) (W.failures writer.old))
+        (io_view (R.left reader.new) (R.failures reader.new) (W.taken result.2.now) (W.failures result.2.now))
         result.0 }
     ensures sealed { OnOk result.0 (result.1 ≡ spent_as grant Sealed) }
     ensures void { OnErr result.0 (result.1 ≡ spent_as grant Void) }
@@ -115,8 +116,8 @@ fn fill_stream<T: Threads + Wait + Sync, R: Source, W: Outputs>(
     ensures rest { W.rest writer.new ≡ W.rest writer.old }
     ensures pipes { HasPipedContainer context.now.key.now context.now.options.now.shape.now
         (prefix_of grant.device grant.number) context.now.options.now.max_chunks
-        (stream_view (R.left reader.old) (R.failures reader.old) (W.taken writer.old) (W.failures writer.old))
-        (stream_view (R.left reader.new) (R.failures reader.new) (W.taken writer.new) (W.failures writer.new))
+        (io_view (R.left reader.old) (R.failures reader.old) (W.taken writer.old) (W.failures writer.old))
+        (io_view (R.left reader.new) (R.failures reader.new) (W.taken writer.new) (W.failures writer.new))
         result.0 }
     ensures sealed { OnOk result.0 (result.1 ≡ spent_as grant Sealed) }
     ensures void { OnErr result.0 (result.1 ≡ spent_as grant Void) }

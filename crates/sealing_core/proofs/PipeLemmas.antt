@@ -8,9 +8,10 @@ use Rattle.container_core.specs.Stream.{stream, stream_by}
 use Rattle.container_core.specs.declared.fault.SealFault.{SealFault}
 use Rattle.container_core.proofs.HeaderLemmas.{length-hint_of, size-header_of}
 use Rattle.sealing_core.specs.Engine.{BeginsContainer, CutsContainer, DropsRound, HasReadPlain, HasWrittenRounds, rounds_so_far, seal_read_failed, seal_write_failed}
-use Rattle.sealing_core.specs.Piped.{HasPipedContainer, stream_view}
+use Rattle.sealing_core.specs.Piped.{HasPipedContainer}
 use Rattle.io_core.specs.Reads.{ConsumesExactly, ConsumesUpTo}
 use Rattle.io_core.specs.Streams.{Appends, AppendsFront, LacksSome, counted}
+use Rattle.io_core.specs.Views.{IoView}
 use Rattle.output_core.specs.Bounds.{Admits, Bound}
 use Rattle.sealing_core.specs.Order.{HasBegun, IsCutOff, chunks_so_far}
 use Rattle.sealing_core.specs.Rounds.{DropsInHand, HasSealedRounds}
@@ -59,26 +60,24 @@ same_writes : (failures failures' : Option ℕ) (r : Result ℕ SealFault) → f
 same_writes failures failures' (Ok n) e = e
 same_writes failures failures' (Err fault) e = e
 
-pub piped-container : (key prefix header : List ℕ) (shape : ShapeView) (most : ℕ) (left left' taken taken' : Option (List ℕ)) (failures failures' refusals refusals' : Option ℕ)
-    (result : Result ℕ SealFault) → header ≡ header_of key shape prefix
-    → HasPiped key header most left left' failures failures' taken taken' refusals refusals' result
-    → HasPipedContainer key shape prefix most (stream_view left failures taken refusals) (stream_view left' failures' taken' refusals') result
-piped-container key prefix header shape most left left' taken taken' failures failures' refusals refusals' result named did =
+pub piped-container : (key prefix header : List ℕ) (shape : ShapeView) (most : ℕ) (old new : IoView) (result : Result ℕ SealFault)
+    → header ≡ header_of key shape prefix → HasPiped key header most old new result → HasPipedContainer key shape prefix most old new result
+piped-container key prefix header shape most old new result named did =
     let sized : most * size_in header ≡ most * size_of shape = ap (λ (h : List ℕ). most * size_in h) named ∙ ap (λ (s : ℕ). most * s) (size-header_of key prefix shape) in
     record {
       end = did.end;
-      written = on_ok result (if_some left (λ input was. subst (Appends taken taken') (whole-container key prefix header input shape named) was)) did.written;
+      written = on_ok result (if_some old.left (λ input was. subst (Appends old.taken new.taken) (whole-container key prefix header input shape named) was)) did.written;
       answer = did.answer;
-      within = on_ok result (if_some left (λ input was. subst (λ (n : ℕ). length input ≤ n) sized was)) did.within;
-      more = λ e. if_some left (λ input was. subst (λ (n : ℕ). n < length input) sized was) (did.more e);
-      one = λ e. subst (λ (n : ℕ). ConsumesExactly left left' (n + 1)) sized (did.one e);
-      bound = subst (λ (n : ℕ). ConsumesUpTo left left' (n + 1)) sized did.bound;
-      begun = on_err result (if_some left (λ input was. subst (AppendsFront taken taken') (whole-container key prefix header input shape named) was)) did.begun;
-      short = λ e. if_some left (λ input was. subst (LacksSome taken taken') (whole-container key prefix header input shape named) was) (did.short e);
-      few = λ e. subst (AppendsFront taken taken') named (did.few e);
+      within = on_ok result (if_some old.left (λ input was. subst (λ (n : ℕ). length input ≤ n) sized was)) did.within;
+      more = λ e. if_some old.left (λ input was. subst (λ (n : ℕ). n < length input) sized was) (did.more e);
+      one = λ e. subst (λ (n : ℕ). ConsumesExactly old.left new.left (n + 1)) sized (did.one e);
+      bound = subst (λ (n : ℕ). ConsumesUpTo old.left new.left (n + 1)) sized did.bound;
+      begun = on_err result (if_some old.left (λ input was. subst (AppendsFront old.taken new.taken) (whole-container key prefix header input shape named) was)) did.begun;
+      short = λ e. if_some old.left (λ input was. subst (LacksSome old.taken new.taken) (whole-container key prefix header input shape named) was) (did.short e);
+      few = λ e. subst (AppendsFront old.taken new.taken) named (did.few e);
       endless = did.endless;
-      read = same_reads failures failures' result did.read;
-      write = same_writes refusals refusals' result did.write;
+      read = same_reads old.read_failures new.read_failures result did.read;
+      write = same_writes old.write_failures new.write_failures result did.write;
     }
 
 -- ---- in rounds
@@ -105,9 +104,9 @@ so_far key header header' (x ∷ past) size named sized =
     ap (λ (s : ℕ). header ++ stream_by key header 0 false (chunks s (x ∷ past))) sized
     ∙ ap (λ (h : List ℕ). h ++ stream_by key h 0 false (chunks size (x ∷ past))) named
 
-drops : (key prefix header : List ℕ) (shape : ShapeView) (most window : ℕ) (left left' taken taken' : Option (List ℕ)) → header ≡ header_of key shape prefix
-    → DropsInHand header key header most window left left' taken taken' → DropsRound key shape prefix most window left left' taken taken'
-drops key prefix header shape most window left left' taken taken' named (past, held, rounds, consumed, long, within, some, few, written) =
+drops : (key prefix header : List ℕ) (shape : ShapeView) (most window : ℕ) (old new : IoView) → header ≡ header_of key shape prefix
+    → DropsInHand header key header most window old new → DropsRound key shape prefix most window old new
+drops key prefix header shape most window old new named (past, held, rounds, consumed, long, within, some, few, written) =
     let sized : size_in header ≡ size_of shape = ap size_in named ∙ size-header_of key prefix shape in (
       past,
       held,
@@ -117,32 +116,30 @@ drops key prefix header shape most window left left' taken taken' named (past, h
       within,
       some,
       subst (λ (s : ℕ). length held ≤ window * s + 1) sized few,
-      subst (Appends taken taken') (so_far key header (header_of key shape prefix) past (size_of shape) named sized) written,
+      subst (Appends old.taken new.taken) (so_far key header (header_of key shape prefix) past (size_of shape) named sized) written,
     )
 
-pub rounds-read : (key header : List ℕ) (most window : ℕ) (left left' taken taken' : Option (List ℕ)) (failures failures' refusals refusals' : Option ℕ)
-    (result : Result ℕ SealFault)
-    → HasSealedRounds header key header most window left left' failures failures' taken taken' refusals refusals' result
-    → HasReadPlain {A = ℕ} most left left' failures failures' result
-rounds-read key header most window left left' taken taken' failures failures' refusals refusals' result did = record {
+pub rounds-read : (key header : List ℕ) (most window : ℕ) (old new : IoView) (result : Result ℕ SealFault)
+    → HasSealedRounds header key header most window old new result
+    → HasReadPlain {A = ℕ} most old.left new.left old.read_failures new.read_failures result
+rounds-read key header most window old new result did = record {
   end = did.end;
   more = did.more;
   too_long = did.one;
   bound = did.bound;
-  read = same_reads failures failures' result did.read;
+  read = same_reads old.read_failures new.read_failures result did.read;
 }
 
-pub rounds-container : (key prefix header : List ℕ) (shape : ShapeView) (most window : ℕ) (left left' taken taken' : Option (List ℕ))
-    (failures failures' refusals refusals' : Option ℕ) (result : Result ℕ SealFault) → header ≡ header_of key shape prefix
-    → HasSealedRounds header key header most window left left' failures failures' taken taken' refusals refusals' result
-    → HasWrittenRounds key shape prefix most window left left' taken taken' refusals refusals' result
-rounds-container key prefix header shape most window left left' taken taken' failures failures' refusals refusals' result named did = record {
-  written = on_ok result (if_some left (λ input was. subst (Appends taken taken') (whole-container key prefix header input shape named) was)) did.written;
+pub rounds-container : (key prefix header : List ℕ) (shape : ShapeView) (most window : ℕ) (old new : IoView) (result : Result ℕ SealFault)
+    → header ≡ header_of key shape prefix → HasSealedRounds header key header most window old new result
+    → HasWrittenRounds key shape prefix most window old new result
+rounds-container key prefix header shape most window old new result named did = record {
+  written = on_ok result (if_some old.left (λ input was. subst (Appends old.taken new.taken) (whole-container key prefix header input shape named) was)) did.written;
   within = did.within;
-  begun = on_err result (begins key prefix header shape left taken taken' named) did.begun;
-  short = λ e. cuts key prefix header shape left taken taken' named (did.short e);
-  dropped = λ e. drops key prefix header shape most window left left' taken taken' named (did.dropped e);
+  begun = on_err result (begins key prefix header shape old.left old.taken new.taken named) did.begun;
+  short = λ e. cuts key prefix header shape old.left old.taken new.taken named (did.short e);
+  dropped = λ e. drops key prefix header shape most window old new named (did.dropped e);
   unwritten = did.unwritten;
-  write = same_writes refusals refusals' result did.write;
+  write = same_writes old.write_failures new.write_failures result did.write;
   length = did.answer;
 }

@@ -11,6 +11,7 @@ use Rattle.container_core.specs.declared.fault.SealFault.{SealFault}
 use Rattle.container_core.specs.declared.fault.SealFault.TheVariants.{OutOfMemory, Read, Write, TooLong}
 use Rattle.io_core.specs.Reads.{ConsumesUpTo}
 use Rattle.io_core.specs.Streams.{Appends, Consumes, counted}
+use Rattle.io_core.specs.Views.{io_view}
 use Rattle.sealing_core.specs.declared.early.Early.{Early}
 use Rattle.sealing_core.specs.declared.intake.Intake.{Intake}
 use Rattle.sealing_core.specs.declared.line.Hand.{Hand}
@@ -19,7 +20,7 @@ use Rattle.sealing_core.specs.declared.round.Plan.{Plan}
 use Rattle.sealing_core.specs.declared.round.Round.{Round}
 use Rattle.sealing_core.specs.Intake.{HasRead, seen}
 use Rattle.sealing_core.specs.Order.{behind, empty, AreWritten, Follows, HasBegun, IsCutOff, IsOrdered}
-use Rattle.sealing_core.specs.Hands.{hand, all_numbers}
+use Rattle.sealing_core.specs.Hands.{hand, hands_view, all_numbers}
 use Rattle.sealing_core.specs.Pieces.{block, room, IsChunk, IsPart, IsTask, task_numbers}
 use Rattle.sealing_core.specs.Round.{AreJobs, AreRounds, IsHanded, IsInHand, IsLast, IsRead, IsUnderWay}
 use Rattle.sealing_core.specs.Pipe.{read_failed}
@@ -217,7 +218,7 @@ pub way_put : (each : ℕ) (key header : List ℕ) (told left : Option (List ℕ
     → jobs' ≡ hand jobs.parts (jobs.put ++ all_numbers task_numbers round.held.items) jobs.taken
     → length round.held.items ≤ plan.group → (round.intake.over ≡ true → length round.held.items < plan.group)
     → (round.intake.ended ≡ false → plan.group ≤ length round.held.items)
-    → IsUnderWay each key header told left plan early jobs pieces round → IsUnderWay each key header told left plan early' jobs' pieces round'
+    → IsUnderWay each key header told left plan early (hands_view jobs pieces) round → IsUnderWay each key header told left plan early' (hands_view jobs' pieces) round'
 way_put each key header told left plan early early' jobs jobs' pieces round round' some same held last filled sealed places written view few over full was = record {
   put = was.put + length round.held.items;
   order = order_all each key header told was.put early early' jobs jobs' pieces round.held.items was.hand.jobs places written view was.order;
@@ -234,7 +235,7 @@ way_put each key header told left plan early early' jobs jobs' pieces round roun
 -- nothing was put
 pub way_none : (each : ℕ) (key header : List ℕ) (told left : Option (List ℕ)) (plan : Plan) (early : Early) (jobs pieces : Hand) (round : Round)
     → early.places.items ≡ [] → early.written ≡ 0 → jobs.put ≡ [] → pieces.put ≡ []
-    → IsInHand each key header told left plan.limit 0 round → IsUnderWay each key header told left plan early jobs pieces round
+    → IsInHand each key header told left plan.limit 0 round → IsUnderWay each key header told left plan early (hands_view jobs pieces) round
 way_none each key header told left plan early jobs pieces round places written put silent was = record {
   put = 0;
   order = order_none each key header told 0 early jobs pieces refl places written put silent;
@@ -245,7 +246,7 @@ way_none each key header told left plan early jobs pieces round places written p
 -- a piece was written, or taken back, or made
 pub way_step : (each : ℕ) (key header : List ℕ) (told left : Option (List ℕ)) (plan : Plan) (early early' : Early) (jobs jobs' pieces pieces' : Hand) (round : Round)
     → ((put : ℕ) → IsOrdered each key header told put early jobs pieces → IsOrdered each key header told put early' jobs' pieces')
-    → IsUnderWay each key header told left plan early jobs pieces round → IsUnderWay each key header told left plan early' jobs' pieces' round
+    → IsUnderWay each key header told left plan early (hands_view jobs pieces) round → IsUnderWay each key header told left plan early' (hands_view jobs' pieces') round
 way_step each key header told left plan early early' jobs jobs' pieces pieces' round step was =
     record { put = was.put; order = step was.put was.order; hand = was.hand; rounds = was.rounds }
 
@@ -253,7 +254,7 @@ way_step each key header told left plan early early' jobs jobs' pieces pieces' r
 pub way_read : (each : ℕ) (key header : List ℕ) (told left left' : Option (List ℕ)) (plan : Plan) (early : Early) (jobs pieces : Hand) (round round' : Round)
     → round.intake.ended ≡ false
     → ((put : ℕ) → IsInHand each key header told left plan.limit put round → IsInHand each key header told left' plan.limit put round')
-    → IsUnderWay each key header told left plan early jobs pieces round → IsUnderWay each key header told left' plan early jobs pieces round'
+    → IsUnderWay each key header told left plan early (hands_view jobs pieces) round → IsUnderWay each key header told left' plan early (hands_view jobs pieces) round'
 way_read each key header told left left' plan early jobs pieces round round' going step was =
     record { put = was.put; order = was.order; hand = step was.put was.hand; rounds = λ _. was.rounds going }
 
@@ -267,7 +268,7 @@ handed_as group round round' same held was = (
 pub way_sealed : (each : ℕ) (key header : List ℕ) (told left : Option (List ℕ)) (plan : Plan) (early : Early) (jobs pieces : Hand) (round round' : Round)
     → round'.intake ≡ round.intake → round'.held ≡ round.held → (round.intake.ended ≡ false → round' ≡ round)
     → ((number : ℕ) → round.intake.blocks ≡ number + 1 → IsLast each key header told number round → IsLast each key header told number round')
-    → IsUnderWay each key header told left plan early jobs pieces round → IsUnderWay each key header told left plan early jobs pieces round'
+    → IsUnderWay each key header told left plan early (hands_view jobs pieces) round → IsUnderWay each key header told left plan early (hands_view jobs pieces) round'
 way_sealed each key header told left plan early jobs pieces round round' same held kept step was = record {
   put = was.put;
   order = was.order;
@@ -281,7 +282,7 @@ way_sealed each key header told left plan early jobs pieces round round' same he
 pub rounds_end : (each : ℕ) (front key header : List ℕ) (told left taken now : Option (List ℕ)) (limit group : ℕ) (failures failures' refusals refusals' : Option ℕ)
     (intake : Intake) → HasRead (block each header) limit told left intake → intake.ended ≡ true
     → IfSome told (λ input. Appends taken now (behind front key header input)) → failures' ≡ failures → refusals' ≡ refusals
-    → HasSealedRounds front key header (limit - 1) group told left failures failures' taken now refusals refusals' (Ok intake.total)
+    → HasSealedRounds front key header (limit - 1) group (io_view told failures taken refusals) (io_view left failures' now refusals') (Ok intake.total)
 rounds_end each front key header told left taken now limit group failures failures' refusals refusals' intake had ended was reads writes =
     let end = had.end ended in
     let all = Consumes-all told left had.bytes [] had.bytes had.consumed end.0 refl in
@@ -327,7 +328,7 @@ pub rounds_long : (each : ℕ) (front key header : List ℕ) (told left taken no
     (round : Round) → 0 < limit → 0 < size_in header → 0 < each → IsInHand each key header told left limit put round → round.intake.ended ≡ false → round.intake.over ≡ true
     → length round.held.items < group → AreRounds (block each header) limit group put → AreWritten each front key header told taken now put
     → failures' ≡ failures → refusals' ≡ refusals
-    → HasSealedRounds front key header (limit - 1) (group * each) told left failures failures' taken now refusals refusals' (Err TooLong)
+    → HasSealedRounds front key header (limit - 1) (group * each) (io_view told failures taken refusals) (io_view left failures' now refusals') (Err TooLong)
 rounds_long each front key header told left taken now limit group put failures failures' refusals refusals' round some size one held_now going over few rounds was reads writes =
     let had = held_now.read in
     let met = (had.over over).0 in
@@ -379,7 +380,7 @@ rounds_long each front key header told left taken now limit group put failures f
 -- memory was refused, and nothing is written
 pub rounds_memory : (front key header : List ℕ) (told left taken : Option (List ℕ)) (limit group : ℕ) (failures failures' refusals refusals' : Option ℕ)
     → 0 < limit → ConsumesUpTo told left limit → failures' ≡ failures → refusals' ≡ refusals
-    → HasSealedRounds front key header (limit - 1) group told left failures failures' taken taken refusals refusals' (Err OutOfMemory)
+    → HasSealedRounds front key header (limit - 1) group (io_view told failures taken refusals) (io_view left failures' taken refusals') (Err OutOfMemory)
 rounds_memory front key header told left taken limit group failures failures' refusals refusals' some bound reads writes = record {
   end = tt;
   written = tt;
@@ -399,7 +400,7 @@ rounds_memory front key header told left taken limit group failures failures' re
 
 pub rounds_read : (front key header : List ℕ) (told left taken now : Option (List ℕ)) (limit group : ℕ) (failures failures' refusals refusals' : Option ℕ)
     → 0 < limit → ConsumesUpTo told left limit → HasBegun front key header told taken now → failures' ≡ counted true failures → refusals' ≡ refusals
-    → HasSealedRounds front key header (limit - 1) group told left failures failures' taken now refusals refusals' (Err Read)
+    → HasSealedRounds front key header (limit - 1) group (io_view told failures taken refusals) (io_view left failures' now refusals') (Err Read)
 rounds_read front key header told left taken now limit group failures failures' refusals refusals' some bound begun reads writes = record {
   end = tt;
   written = tt;
@@ -419,7 +420,7 @@ rounds_read front key header told left taken now limit group failures failures' 
 
 pub rounds_write : (front key header : List ℕ) (told left taken now : Option (List ℕ)) (limit group : ℕ) (failures failures' refusals refusals' : Option ℕ)
     → 0 < limit → ConsumesUpTo told left limit → IsCutOff front key header told taken now → failures' ≡ failures → refusals' ≡ counted true refusals
-    → HasSealedRounds front key header (limit - 1) group told left failures failures' taken now refusals refusals' (Err Write)
+    → HasSealedRounds front key header (limit - 1) group (io_view told failures taken refusals) (io_view left failures' now refusals') (Err Write)
 rounds_write front key header told left taken now limit group failures failures' refusals refusals' some bound cut reads writes = record {
   end = tt;
   written = tt;
@@ -485,7 +486,7 @@ not_ended size limit left left' intake had over = elim (cases_Bool intake.ended)
 pub rounds_first : (front key header : List ℕ) (told left taken : Option (List ℕ)) (limit group : ℕ) (failures failures' refusals refusals' : Option ℕ)
     (fault : SealFault) → (fault ≡ OutOfMemory) ⊎ (fault ≡ Read) → 0 < limit → ConsumesUpTo told left limit
     → failures' ≡ counted (read_failed {A = Unit {0}} (Err fault)) failures → refusals' ≡ refusals
-    → HasSealedRounds front key header (limit - 1) group told left failures failures' taken taken refusals refusals' (Err fault)
+    → HasSealedRounds front key header (limit - 1) group (io_view told failures taken refusals) (io_view left failures' taken refusals') (Err fault)
 rounds_first front key header told left taken limit group failures failures' refusals refusals' OutOfMemory how some bound reads writes =
     rounds_memory front key header told left taken limit group failures failures' refusals refusals' some bound reads writes
 rounds_first front key header told left taken limit group failures failures' refusals refusals' Read how some bound reads writes =
@@ -496,12 +497,12 @@ rounds_first front key header told left taken limit group failures failures' ref
 -- the same with equal counts of failures
 pub rounds_counts : (front front' key header : List ℕ) (most window : ℕ) (told left taken now : Option (List ℕ)) (failures failures' reads refusals refusals' writes : Option ℕ)
     (result : Result ℕ SealFault) → front' ≡ front → failures' ≡ failures → refusals' ≡ refusals
-    → HasSealedRounds front' key header most window told left failures' reads taken now refusals' writes result
-    → HasSealedRounds front key header most window told left failures reads taken now refusals writes result
+    → HasSealedRounds front' key header most window (io_view told failures' taken refusals') (io_view left reads now writes) result
+    → HasSealedRounds front key header most window (io_view told failures taken refusals) (io_view left reads now writes) result
 rounds_counts front front' key header most window told left taken now failures failures' reads refusals refusals' writes result e f g did =
-    subst (λ (l : List ℕ). HasSealedRounds l key header most window told left failures reads taken now refusals writes result) e
-    (subst (λ (n : Option ℕ). HasSealedRounds front' key header most window told left n reads taken now refusals writes result) f
-    (subst (λ (n : Option ℕ). HasSealedRounds front' key header most window told left failures' reads taken now n writes result) g did))
+    subst (λ (l : List ℕ). HasSealedRounds l key header most window (io_view told failures taken refusals) (io_view left reads now writes) result) e
+    (subst (λ (n : Option ℕ). HasSealedRounds front' key header most window (io_view told n taken refusals) (io_view left reads now writes) result) f
+    (subst (λ (n : Option ℕ). HasSealedRounds front' key header most window (io_view told failures' taken n) (io_view left reads now writes) result) g did))
 
 -- some jobs of the only round are done
 pub hand_alone : (each : ℕ) (key header : List ℕ) (told left : Option (List ℕ)) (limit number : ℕ) (first round : Round) → round.intake ≡ first.intake

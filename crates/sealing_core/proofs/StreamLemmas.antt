@@ -8,6 +8,7 @@ use Rattle.container_core.specs.declared.fault.SealFault.{SealFault}
 use Rattle.container_core.specs.declared.fault.SealFault.TheVariants.{OutOfMemory, Read, Write, TooLong, TooManyChunks}
 use Rattle.io_core.specs.Reads.{ConsumesExactly, ConsumesUpTo}
 use Rattle.io_core.specs.Streams.{Appends, AppendsFront, Keeps, LacksSome, counted}
+use Rattle.io_core.specs.Views.{io_view}
 use Rattle.sealing_core.specs.Order.{HasBegun, IsCutOff}
 use Rattle.sealing_core.specs.Pipe.{HasPiped, answer_of_stream, whole}
 use Rattle.sealing_core.specs.Rounds.{HasSealedRounds}
@@ -45,8 +46,8 @@ within_bound told left bytes most sized bound = subst (λ (n : ℕ). ConsumesUpT
 
 pub piped_of : (key header : List ℕ) (most bytes window : ℕ) (told left taken mid now : Option (List ℕ)) (failures failures' refusals refusals' : Option ℕ)
     (result : Result ℕ SealFault) → bytes ≡ most * size_in header → Appends taken mid header
-    → HasSealedRounds [] key header bytes window told left failures failures' mid now refusals refusals' result
-    → HasPiped key header most told left failures failures' taken now refusals refusals' (answer_of_stream result)
+    → HasSealedRounds [] key header bytes window (io_view told failures mid refusals) (io_view left failures' now refusals') result
+    → HasPiped key header most (io_view told failures taken refusals) (io_view left failures' now refusals') (answer_of_stream result)
 piped_of key header most bytes window told left taken mid now failures failures' refusals refusals' (Ok n) sized grown did = record {
   end = did.end;
   written = if_some told (λ input was. Appends-trans taken mid now header (stream key header 0 (chunks (size_in header) input)) grown was) did.written;
@@ -127,7 +128,7 @@ piped_of key header most bytes window told left taken mid now failures failures'
 -- nothing was read, and the header couldn't be written
 pub piped_header : (key header : List ℕ) (most : ℕ) (told taken now : Option (List ℕ)) (failures refusals refusals' : Option ℕ) → AppendsFront taken now header
     → LacksSome taken now header → refusals' ≡ counted true refusals
-    → HasPiped key header most told told failures failures taken now refusals refusals' (Err Write)
+    → HasPiped key header most (io_view told failures taken refusals) (io_view told failures now refusals') (Err Write)
 piped_header key header most told taken now failures refusals refusals' begun lacks writes = record {
   end = tt;
   written = tt;
@@ -154,7 +155,7 @@ piped_header key header most told taken now failures refusals refusals' begun la
 
 -- nothing was read, and nothing was written
 pub piped_none : (key header : List ℕ) (most : ℕ) (told taken : Option (List ℕ)) (failures refusals : Option ℕ)
-    → HasPiped key header most told told failures failures taken taken refusals refusals (Err OutOfMemory)
+    → HasPiped key header most (io_view told failures taken refusals) (io_view told failures taken refusals) (Err OutOfMemory)
 piped_none key header most told taken failures refusals = record {
   end = tt;
   written = tt;
@@ -178,13 +179,13 @@ piped_none key header most told taken failures refusals = record {
 -- in the caller's own words
 pub piped_as : (key header k h : List ℕ) (most : ℕ) (left told left' taken taken' : Option (List ℕ)) (failures failures' refusals refusals' : Option ℕ)
     (result : Result ℕ SealFault) → key ≡ k → header ≡ h → left ≡ told
-    → HasPiped k h most told left' failures failures' taken taken' refusals refusals' result
-    → HasPiped key header most left left' failures failures' taken taken' refusals refusals' result
+    → HasPiped k h most (io_view told failures taken refusals) (io_view left' failures' taken' refusals') result
+    → HasPiped key header most (io_view left failures taken refusals) (io_view left' failures' taken' refusals') result
 piped_as key header k h most left told left' taken taken' failures failures' refusals refusals' result a b c p = rw (a, b, c) p
 
 -- the same in other words
 pub rounds_as : (key header k h : List ℕ) (most bytes window window' : ℕ) (left told left' taken taken' : Option (List ℕ)) (failures failures' refusals refusals' : Option ℕ)
     (result : Result ℕ SealFault) → key ≡ k → header ≡ h → left ≡ told → most ≡ bytes → window ≡ window'
-    → HasSealedRounds h k h bytes window' told left' failures failures' taken taken' refusals refusals' result
-    → HasSealedRounds header key header most window left left' failures failures' taken taken' refusals refusals' result
+    → HasSealedRounds h k h bytes window' (io_view told failures taken refusals) (io_view left' failures' taken' refusals') result
+    → HasSealedRounds header key header most window (io_view left failures taken refusals) (io_view left' failures' taken' refusals') result
 rounds_as key header k h most bytes window window' left told left' taken taken' failures failures' refusals refusals' result a b c d e p = rw (a, b, c, d, e) p

@@ -10,6 +10,7 @@ use Rattle.container_core.specs.Faults.{is_failed_read, is_failed_write}
 use Rattle.container_core.specs.Stream.{stream_by}
 use Rattle.io_core.specs.Reads.{ConsumesExactly, ConsumesUpTo}
 use Rattle.io_core.specs.Streams.{Appends, AppendsFront, Consumes, IsAtEnd, Keeps, LacksSome, counted}
+use Rattle.io_core.specs.Views.{IoView}
 
 -- whether a sealing ended by a failed read
 abbrev pub seal_read_failed : {A : Type 0} → Result A SealFault → Bool
@@ -33,22 +34,23 @@ pub record HasReadPlain {A : Type 0} (most : ℕ) (left left' : Option (List ℕ
   -- a failed read is Read, and no other fault is
   pub read : failures' ≡ counted (seal_read_failed result) failures
 
--- What it did with its writer, which had taken `taken` before and `taken'` after.
-pub record HasWrittenContainer (key : List ℕ) (shape : ShapeView) (prefix : List ℕ) (most : ℕ)
-    (left taken taken' : Option (List ℕ)) (failures failures' : Option ℕ) (result : Result ℕ SealFault) : Type 0 where
+-- What it did with its writer. The input is what the reader had left.
+pub record HasWrittenContainer (key : List ℕ) (shape : ShapeView) (prefix : List ℕ) (most : ℕ) (old new : IoView)
+    (result : Result ℕ SealFault) : Type 0 where
   -- what was written is the container of the whole input
-  pub written : OnOk result (IfSome left (λ input. Appends taken taken' (container key shape prefix input)))
-  pub within : OnOk result (IfSome left (λ input. length input ≤ most))
+  pub written : OnOk result
+      (IfSome old.left (λ input. Appends old.taken new.taken (container key shape prefix input)))
+  pub within : OnOk result (IfSome old.left (λ input. length input ≤ most))
   -- where a write failed, a proper prefix of that was written; at another fault nothing
-  pub unwritten : result ≢ Err sealing_fault.Write → OnErr result (Keeps taken taken')
+  pub unwritten : result ≢ Err sealing_fault.Write → OnErr result (Keeps old.taken new.taken)
   pub begun : result ≡ Err sealing_fault.Write
-      → IfSome left (λ input. AppendsFront taken taken' (container key shape prefix input))
+      → IfSome old.left (λ input. AppendsFront old.taken new.taken (container key shape prefix input))
   pub short : result ≡ Err sealing_fault.Write
-      → IfSome left (λ input. LacksSome taken taken' (container key shape prefix input))
+      → IfSome old.left (λ input. LacksSome old.taken new.taken (container key shape prefix input))
   -- a failed write is Write, and no other fault is
-  pub write : failures' ≡ counted (seal_write_failed result) failures
+  pub write : new.write_failures ≡ counted (seal_write_failed result) old.write_failures
   -- the result is the input's length
-  pub length : IfOk result (λ n. IfSome left (λ input. n ≡ length input))
+  pub length : IfOk result (λ n. IfSome old.left (λ input. n ≡ length input))
 
 -- what was written begins the container of the input, or of some plaintext where the input isn't known
 abbrev pub BeginsContainer : List ℕ → ShapeView → List ℕ → Option (List ℕ) → Option (List ℕ) → Option (List ℕ) → Type 0
@@ -69,28 +71,27 @@ rounds_so_far size key header (byte ∷ bytes) = header ++ stream_by key header 
 
 -- what was read is some full rounds, which were written whole, and the current round, which was dropped; the byte that
 -- follows each of those rounds is within the limit
-abbrev pub DropsRound : List ℕ → ShapeView → List ℕ → ℕ → ℕ → Option (List ℕ) → Option (List ℕ) → Option (List ℕ)
-    → Option (List ℕ) → Type 0
-DropsRound key shape prefix most window left left' taken taken' = (past : List ℕ) × (held : List ℕ) × (rounds : ℕ)
-    × Consumes left left' (past ++ held) × (length past ≡ rounds * (window * size_of shape))
+abbrev pub DropsRound : List ℕ → ShapeView → List ℕ → ℕ → ℕ → IoView → IoView → Type 0
+DropsRound key shape prefix most window old new = (past : List ℕ) × (held : List ℕ) × (rounds : ℕ)
+    × Consumes old.left new.left (past ++ held) × (length past ≡ rounds * (window * size_of shape))
     × (0 < length past → length past < most) × (0 < length held) × (length held ≤ window * size_of shape + 1)
-    × Appends taken taken' (rounds_so_far (size_of shape) key (header_of key shape prefix) past)
+    × Appends old.taken new.taken (rounds_so_far (size_of shape) key (header_of key shape prefix) past)
 
--- What an engine that seals in rounds of `window` chunks did with its writer.
-pub record HasWrittenRounds (key : List ℕ) (shape : ShapeView) (prefix : List ℕ) (most window : ℕ)
-    (left left' taken taken' : Option (List ℕ)) (failures failures' : Option ℕ) (result : Result ℕ SealFault)
-    : Type 0 where
+-- What an engine that seals in rounds of `window` chunks did with its writer. The input is what the reader had left.
+pub record HasWrittenRounds (key : List ℕ) (shape : ShapeView) (prefix : List ℕ) (most window : ℕ) (old new : IoView)
+    (result : Result ℕ SealFault) : Type 0 where
   -- what was written is the container of the whole input
-  pub written : OnOk result (IfSome left (λ input. Appends taken taken' (container key shape prefix input)))
-  pub within : OnOk result (IfSome left (λ input. length input ≤ most))
+  pub written : OnOk result
+      (IfSome old.left (λ input. Appends old.taken new.taken (container key shape prefix input)))
+  pub within : OnOk result (IfSome old.left (λ input. length input ≤ most))
   -- at a fault a prefix of that was written, and where a write failed not all
-  pub begun : OnErr result (BeginsContainer key shape prefix left taken taken')
-  pub short : result ≡ Err sealing_fault.Write → CutsContainer key shape prefix left taken taken'
+  pub begun : OnErr result (BeginsContainer key shape prefix old.left old.taken new.taken)
+  pub short : result ≡ Err sealing_fault.Write → CutsContainer key shape prefix old.left old.taken new.taken
   -- of an input that is too long the rounds before the current one were written
-  pub dropped : result ≡ Err sealing_fault.TooLong → DropsRound key shape prefix most window left left' taken taken'
+  pub dropped : result ≡ Err sealing_fault.TooLong → DropsRound key shape prefix most window old new
   -- where memory is refused, nothing was written
-  pub unwritten : result ≡ Err sealing_fault.OutOfMemory → Keeps taken taken'
+  pub unwritten : result ≡ Err sealing_fault.OutOfMemory → Keeps old.taken new.taken
   -- a failed write is Write, and no other fault is
-  pub write : failures' ≡ counted (seal_write_failed result) failures
+  pub write : new.write_failures ≡ counted (seal_write_failed result) old.write_failures
   -- the result is the input's length
-  pub length : IfOk result (λ n. IfSome left (λ input. n ≡ length input))
+  pub length : IfOk result (λ n. IfSome old.left (λ input. n ≡ length input))

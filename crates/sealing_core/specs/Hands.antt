@@ -35,6 +35,14 @@ module _ {T : Type 0} where
   abbrev pub Balanced : (T → List ℕ) → Hand → List T → Type 0
   Balanced numbers v items = (x : ℕ) → times x v.put ≡ times x v.taken + times x (all_numbers numbers items)
 
+-- the hands of one thread, on both queues
+pub record HandsView : Type 0 where
+  pub jobs : Hand
+  pub pieces : Hand
+
+abbrev pub hands_view : Hand → Hand → HandsView
+hands_view jobs pieces = record { jobs = jobs; pieces = pieces }
+
 abbrev pub newcomer : Hand
 newcomer = hand 1 [] []
 

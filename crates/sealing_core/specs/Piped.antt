@@ -1,5 +1,5 @@
 -- What the contract of the engine that seals a stream cites.
-use Rattle.std.specs.Prelude.{◌≡◌, ◌≢◌, ℕ, ◌+◌, ◌*◌, ◌<◌, ◌≤◌, List, length, Option}
+use Rattle.std.specs.Prelude.{◌≡◌, ◌≢◌, ℕ, ◌+◌, ◌*◌, ◌<◌, ◌≤◌, List, length}
 use Rattle.std.specs.Prelude.{Result, Err, IfOk, OnOk, OnErr, IfSome}
 use Rattle.container_core.specs.Container.{container, header_of}
 use Rattle.container_core.specs.Shape.{ShapeView, size_of}
@@ -8,21 +8,10 @@ use Rattle.container_core.specs.declared.fault.SealFault.TheVariants as sealing_
 use Rattle.sealing_core.specs.Engine.{seal_read_failed, seal_write_failed}
 use Rattle.io_core.specs.Reads.{ConsumesExactly, ConsumesUpTo}
 use Rattle.io_core.specs.Streams.{Appends, AppendsFront, IsAtEnd, LacksSome, counted}
-
--- A stream at a moment: what its reader has left, and how many reads failed; what its writer took, and how many writes
--- failed. Each as far as it is known.
-pub record StreamView : Type 0 where
-  pub left : Option (List ℕ)
-  pub read_failures : Option ℕ
-  pub taken : Option (List ℕ)
-  pub write_failures : Option ℕ
-
-abbrev pub stream_view : Option (List ℕ) → Option ℕ → Option (List ℕ) → Option ℕ → StreamView
-stream_view left read_failures taken write_failures =
-    record { left = left; read_failures = read_failures; taken = taken; write_failures = write_failures }
+use Rattle.io_core.specs.Views.{IoView}
 
 -- What it did with a stream. The input is what the reader had left, where that is known.
-pub record HasPipedContainer (key : List ℕ) (shape : ShapeView) (prefix : List ℕ) (most : ℕ) (old new : StreamView)
+pub record HasPipedContainer (key : List ℕ) (shape : ShapeView) (prefix : List ℕ) (most : ℕ) (old new : IoView)
     (result : Result ℕ SealFault) : Type 0 where
   -- nothing is left unread, and what was written is the container of the whole input
   pub end : OnOk result (IsAtEnd new.left)

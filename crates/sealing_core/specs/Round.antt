@@ -7,7 +7,7 @@ use Rattle.sealing_core.specs.declared.piece.Task.{Task}
 use Rattle.sealing_core.specs.declared.round.Plan.{Plan}
 use Rattle.sealing_core.specs.declared.round.Round.{Round}
 use Rattle.sealing_core.specs.declared.early.Early.{Early}
-use Rattle.sealing_core.specs.declared.line.Hand.{Hand}
+use Rattle.sealing_core.specs.Hands.{HandsView}
 use Rattle.sealing_core.specs.Intake.{HasRead}
 use Rattle.sealing_core.specs.Order.{IsOrdered}
 use Rattle.sealing_core.specs.Pieces.{block, room, IsBlock, IsChunk, IsPart, IsTask, task_numbers}
@@ -69,9 +69,9 @@ IsHanded group round = (round.intake.ended ≡ false → length round.held.items
 
 -- what was read, put, and is in hand
 pub record IsUnderWay (each : ℕ) (key header : List ℕ) (told left : Option (List ℕ)) (plan : Plan) (early : Early)
-    (jobs pieces : Hand) (round : Round) : Type 0 where
+    (hands : HandsView) (round : Round) : Type 0 where
   pub put : ℕ
-  pub order : IsOrdered each key header told put early jobs pieces
+  pub order : IsOrdered each key header told put early hands.jobs hands.pieces
   pub hand : IsInHand each key header told left plan.limit put round
   pub rounds : round.intake.ended ≡ false → AreRounds (block each header) plan.limit plan.group put
 

@@ -2,6 +2,7 @@
 //! soon as it is sealed and its turn comes.
 ghost use Rattle.std.specs.Prelude.{◌≡◌, ℕ, ◌+◌, ◌*◌, ◌^◌, ◌<◌, ◌≤◌, List, take, drop};
 ghost use Rattle.container_core.specs.Container.{hint_of, size_in};
+ghost use Rattle.io_core.specs.Views.{io_view};
 ghost use Rattle.output_core.specs.Bounds.{Admits};
 ghost use Rattle.sealing_core.specs.Pipe.{HasPiped, answer_of_stream, whole};
 ghost use Rattle.sealing_core.specs.Round.{IsPlan};
@@ -52,9 +53,9 @@ fn pipe_named<
     requires may { (plain : List ℕ)
         → Admits (W.bound writer.old) (W.taken writer.old) (whole key.now header.now plain) }
     ensures piped { (most : ℕ) → plan.limit ≡ most * size_in header.now + 1
-        → HasPiped key.now header.now most (R.left reader.old) (R.left reader.new)
-        (R.failures reader.old) (R.failures reader.new) (W.taken writer.old) (W.taken writer.new)
-        (W.failures writer.old) (W.failures writer.new) result }
+        → HasPiped key.now header.now most
+        (io_view (R.left reader.old) (R.failures reader.old) (W.taken writer.old) (W.failures writer.old))
+        (io_view (R.left reader.new) (R.failures reader.new) (W.taken writer.new) (W.failures writer.new)) result }
 {
     let context: SealingContext<'_, N, G> = SealingContext {
         key,
@@ -104,9 +105,9 @@ pub fn pipe<T: Threads + Wait + Sync, R: Source, W: Output, G: Gate + Sync>(
     requires depth { (0 < depth) × (depth ≤ MAX_DEPTH) }
     requires may { (plain : List ℕ)
         → Admits (W.bound writer.old) (W.taken writer.old) (whole key.now header.now plain) }
-    ensures piped { HasPiped key.now header.now max_chunks (R.left reader.old) (R.left reader.new)
-        (R.failures reader.old) (R.failures reader.new) (W.taken writer.old) (W.taken writer.new)
-        (W.failures writer.old) (W.failures writer.new) result }
+    ensures piped { HasPiped key.now header.now max_chunks
+        (io_view (R.left reader.old) (R.failures reader.old) (W.taken writer.old) (W.failures writer.old))
+        (io_view (R.left reader.new) (R.failures reader.new) (W.taken writer.new) (W.failures writer.new)) result }
 {
     let plan = Plan {
         limit: max_chunks as u64 * header.chunk() as u64 + 1,

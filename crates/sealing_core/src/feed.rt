@@ -6,7 +6,9 @@ ghost use Rattle.std.specs.VecDeque.{deque_capacity};
 ghost use Rattle.crossbeam_queue.specs.Passes.{view, IsPassOf};
 ghost use Rattle.io_core.specs.Reads.{ConsumesUpTo};
 ghost use Rattle.io_core.specs.Streams.{counted};
+ghost use Rattle.io_core.specs.Views.{io_view};
 ghost use Rattle.output_core.specs.Bounds.{Admits};
+ghost use Rattle.sealing_core.specs.Hands.{hands_view};
 ghost use Rattle.sealing_core.specs.Order.{behind, below, AreWritten, IsCutOff, IsSeen, MayGoOn};
 ghost use Rattle.sealing_core.specs.Pieces.{block, room};
 ghost use Rattle.sealing_core.specs.Round.{AreRounds, IsHanded, IsInHand, IsLast, IsPlan, IsRead};
@@ -52,8 +54,8 @@ fn seal_or_rest<N: Naming, T: Wait, G: Gate>(
         × (length early.new.places.items ≡ length early.old.places.items)
         × (round.new.intake ≡ round.old.intake) × (round.new.held ≡ round.old.held) }
     ensures way { (left : Option (List ℕ)) (plan : Plan) (pieces : Hand)
-        → IsUnderWay N.each N.key N.header N.told left plan early.old (view into.old) pieces round.old
-        → IsUnderWay N.each N.key N.header N.told left plan early.new (view into.new) pieces round.new }
+        → IsUnderWay N.each N.key N.header N.told left plan early.old (hands_view (view into.old) pieces) round.old
+        → IsUnderWay N.each N.key N.header N.told left plan early.new (hands_view (view into.new) pieces) round.new }
 {
     let bells = queues.bells;
     if bells.len() > 1 && round.seal_last(context) {
@@ -86,7 +88,7 @@ fn run_rounds<N: Naming, T: Wait, R: Source, W: Output, G: Gate>(
     requires into { IsPassOf queues.now.jobs.now hands.old.into × (0 < (view hands.old.into).parts) }
     requires from { IsPassOf queues.now.pieces.now hands.old.from × (0 < (view hands.old.from).parts) }
     requires way { IsUnderWay N.each N.key N.header N.told (R.left reader.old) context.now.plan
-        early.old (view hands.old.into) (view hands.old.from) round.old }
+        early.old (hands_view (view hands.old.into) (view hands.old.from)) round.old }
     requires handed { IsHanded context.now.plan.group round.old }
     requires room { (context.now.plan.depth ≤ deque_capacity early.old.places)
         × (context.now.plan.group ≤ deque_capacity round.old.held)
@@ -101,7 +103,7 @@ fn run_rounds<N: Naming, T: Wait, R: Source, W: Output, G: Gate>(
         × ((view hands.new.from).parts ≡ (view hands.old.from).parts) }
     ensures all { IfOk result (λ all. all ≡ true
         → IsUnderWay N.each N.key N.header N.told (R.left reader.new) context.now.plan
-        early.new (view hands.new.into) (view hands.new.from) round.new
+        early.new (hands_view (view hands.new.into) (view hands.new.from)) round.new
         × IsHanded context.now.plan.group round.new
         × (round.new.intake.over ≡ false → round.new.intake.ended ≡ true) × (length early.new.places.items ≡ 0)) }
     ensures bound { ConsumesUpTo N.told (R.left reader.new) context.now.plan.limit }
@@ -172,8 +174,9 @@ pub(crate) fn end<N: Naming, W: Output, G: Gate>(
         → IsInHand N.each N.key N.header N.told left limit put round.old → IsHanded group round.old
         → (round.old.intake.ended ≡ false → AreRounds (block N.each N.header) limit group put)
         → AreWritten N.each context.now.front.now N.key N.header N.told taken (W.taken writer.old) put
-        → HasSealedRounds context.now.front.now N.key N.header (limit - 1) (group * N.each) N.told left failures failures
-        taken (W.taken writer.new) (W.failures writer.old) (W.failures writer.new) result }
+        → HasSealedRounds context.now.front.now N.key N.header (limit - 1) (group * N.each)
+        (io_view N.told failures taken (W.failures writer.old))
+        (io_view left failures (W.taken writer.new) (W.failures writer.new)) result }
 {
     if round.intake.over {
         return Err(SealFault::TooLong);
@@ -212,8 +215,9 @@ pub(crate) fn feed<N: Naming, T: Wait, R: Source, W: Output, G: Gate>(
     ensures from { IsPassOf queues.now.pieces.now hands.new.from
         × ((view hands.new.from).parts ≡ (view hands.old.from).parts) }
     ensures sealed { HasSealedRounds context.now.front.now N.key N.header (context.now.plan.limit - 1)
-        (context.now.plan.group * N.each) N.told (R.left reader.new) (R.failures reader.old) (R.failures reader.new)
-        (W.taken writer.old) (W.taken writer.new) (W.failures writer.old) (W.failures writer.new) result }
+        (context.now.plan.group * N.each)
+        (io_view N.told (R.failures reader.old) (W.taken writer.old) (W.failures writer.old))
+        (io_view (R.left reader.new) (R.failures reader.new) (W.taken writer.new) (W.failures writer.new)) result }
     ensures seen { OnOk result ((n : ℕ) × ((view hands.new.into).put ≡ below n) × ((view hands.new.from).put ≡ [])
         × IsSeen n (view hands.new.into).taken (view hands.new.from).taken) }
 {

@@ -2,7 +2,7 @@
 ghost use Rattle.std.specs.Prelude.{◌≡◌, ℕ, ◌+◌, ◌<◌, ◌≤◌, ◌++◌, [], ◌∷◌, Option, List, length, true};
 ghost use Rattle.std.specs.VecDeque.{deque_capacity, deque_len};
 ghost use Rattle.crossbeam_queue.specs.Passes.{view, IsPassOf};
-ghost use Rattle.sealing_core.specs.Hands.{all_numbers, hand};
+ghost use Rattle.sealing_core.specs.Hands.{all_numbers, hand, hands_view};
 ghost use Rattle.sealing_core.specs.Order.{empty};
 ghost use Rattle.sealing_core.specs.Pieces.{task_numbers};
 ghost use Rattle.sealing_core.specs.Round.{AreJobs, IsHanded, IsUnderWay};
@@ -84,8 +84,8 @@ pub(crate) fn hand_over<N: Naming, T: Wait>(
     ensures handed { length round.old.held.items ≤ plan.group → IsHanded plan.group round.new }
     ensures way { (left : Option (List ℕ)) (pieces : Hand) → length round.old.held.items ≤ plan.group
         → (round.old.intake.over ≡ true → length round.old.held.items < plan.group)
-        → IsUnderWay N.each N.key N.header N.told left plan early.old (view into.old) pieces round.old
-        → IsUnderWay N.each N.key N.header N.told left plan early.new (view into.new) pieces round.new }
+        → IsUnderWay N.each N.key N.header N.told left plan early.old (hands_view (view into.old) pieces) round.old
+        → IsUnderWay N.each N.key N.header N.told left plan early.new (hands_view (view into.new) pieces) round.new }
 {
     if round.is_full(plan.group) {
         early.ripen(true);

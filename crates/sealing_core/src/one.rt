@@ -4,6 +4,7 @@ ghost use Rattle.std.specs.Prelude.{◌≡◌, ◌≢◌, ◌≤◌, Err};
 ghost use Rattle.container_core.specs.Shape.{one};
 ghost use Rattle.sealing_core.specs.Engine.{HasReadPlain, HasWrittenContainer};
 ghost use Rattle.io_core.specs.Streams.{IsAtEnd};
+ghost use Rattle.io_core.specs.Views.{io_view};
 
 use crate::reading::read_plain;
 use container_core::{Key, MAX_PLAIN, SealFault, Shape, seal};
@@ -27,8 +28,9 @@ pub fn seal_one<R: Source, W: Sink>(
         (R.failures reader.old) (R.failures reader.new) result }
     ensures all_read { result ≡ Err SealFault.Write → IsAtEnd (R.left reader.new) }
     ensures by_bytes { result ≢ Err SealFault.TooManyChunks }
-    ensures writes { HasWrittenContainer key.now one prefix max_bytes (R.left reader.old)
-        (W.taken writer.old) (W.taken writer.new) (W.failures writer.old) (W.failures writer.new) result }
+    ensures writes { HasWrittenContainer key.now one prefix max_bytes
+        (io_view (R.left reader.old) (R.failures reader.old) (W.taken writer.old) (W.failures writer.old))
+        (io_view (R.left reader.new) (R.failures reader.new) (W.taken writer.new) (W.failures writer.new)) result }
 {
     let plain = read_plain(alloc, reader, Vec::new(alloc), max_bytes, 0)?;
     let bytes = seal(alloc, key, &Shape::one(), prefix, plain.as_slice())?;

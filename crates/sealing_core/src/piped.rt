@@ -1,7 +1,8 @@
 //! The engine that seals a stream of any length, in the memory of `depth` chunks.
 ghost use Rattle.std.specs.Prelude.{◌≡◌, ℕ, ◌<◌, ◌≤◌, List, OnOk, OnErr};
 ghost use Rattle.container_core.specs.Container.{container};
-ghost use Rattle.sealing_core.specs.Piped.{HasPipedContainer, stream_view};
+ghost use Rattle.io_core.specs.Views.{io_view};
+ghost use Rattle.sealing_core.specs.Piped.{HasPipedContainer};
 ghost use Rattle.journal_core.specs.declared.entry.Way.TheVariants.{Sealed, Void};
 ghost use Rattle.ledger_core.specs.Range.{prefix_of};
 ghost use Rattle.ledger_core.specs.Shared.{spent_as};
@@ -47,8 +48,8 @@ pub fn run_pipe<T: Threads + Wait + Sync, R: Source, W: Output, G: Gate + Sync>(
     requires may { (plain : List ℕ) → Admits (W.bound writer.old) (W.taken writer.old)
         (container key.now shape.now (prefix_of grant.device grant.number) plain) }
     ensures pipes { HasPipedContainer key.now shape.now (prefix_of grant.device grant.number) max_chunks
-        (stream_view (R.left reader.old) (R.failures reader.old) (W.taken writer.old) (W.failures writer.old))
-        (stream_view (R.left reader.new) (R.failures reader.new) (W.taken writer.new) (W.failures writer.new)) result.0 }
+        (io_view (R.left reader.old) (R.failures reader.old) (W.taken writer.old) (W.failures writer.old))
+        (io_view (R.left reader.new) (R.failures reader.new) (W.taken writer.new) (W.failures writer.new)) result.0 }
 
     // The grant is spent.
     ensures sealed { OnOk result.0 (result.1 ≡ spent_as grant Sealed) }

@@ -6,6 +6,7 @@ ghost use Rattle.std.specs.Prelude.{◌≡◌, ℕ, ◌+◌, ◌-◌, ◌*◌, �
 ghost use Rattle.std.specs.Prelude.{is_err, true, take, drop};
 ghost use Rattle.container_core.specs.Container.{hint_of};
 ghost use Rattle.io_core.specs.Streams.{counted};
+ghost use Rattle.io_core.specs.Views.{io_view};
 ghost use Rattle.output_core.specs.Bounds.{Admits};
 ghost use Rattle.sealing_core.specs.Order.{behind, AreWritten, IsCutOff, MayGoOn};
 ghost use Rattle.sealing_core.specs.Pieces.{IsTask, task_numbers};
@@ -74,8 +75,9 @@ fn alone<N: Naming, W: Output, G: Gate>(
         → Admits (W.bound writer.old) (W.taken writer.old) (behind context.now.front.now N.key N.header plain) }
     ensures sealed { (left : Option (List ℕ)) (failures : Option ℕ) (limit group : ℕ) → 0 < limit
         → IsInHand N.each N.key N.header N.told left limit 0 round.old
-        → HasSealedRounds context.now.front.now N.key N.header (limit - 1) (group * N.each) N.told left failures failures
-        (W.taken writer.old) (W.taken writer.new) (W.failures writer.old) (W.failures writer.new) result }
+        → HasSealedRounds context.now.front.now N.key N.header (limit - 1) (group * N.each)
+        (io_view N.told failures (W.taken writer.old) (W.failures writer.old))
+        (io_view left failures (W.taken writer.new) (W.failures writer.new)) result }
 {
     'jobs: while !round.held.is_empty() {
         match write_job(context, writer, first_of(&mut round.held)) {
@@ -145,9 +147,8 @@ fn rounds_named<
     requires may { (plain : List ℕ)
         → Admits (W.bound writer.old) (W.taken writer.old) (behind header.now key.now header.now plain) }
     ensures sealed { HasSealedRounds header.now key.now header.now (plan.limit - 1) (plan.group * N.each)
-        (R.left reader.old) (R.left reader.new)
-        (R.failures reader.old) (R.failures reader.new) (W.taken writer.old) (W.taken writer.new)
-        (W.failures writer.old) (W.failures writer.new) result }
+        (io_view (R.left reader.old) (R.failures reader.old) (W.taken writer.old) (W.failures writer.old))
+        (io_view (R.left reader.new) (R.failures reader.new) (W.taken writer.new) (W.failures writer.new)) result }
 {
     let context: SealingContext<'_, N, G> = SealingContext {
         key,
@@ -219,10 +220,9 @@ pub fn pipe_rounds<T: Threads + Wait + Sync, R: Source, W: Output, G: Gate + Syn
     requires window { (0 < window) × (window ≤ MAX_WINDOW) }
     requires may { (plain : List ℕ)
         → Admits (W.bound writer.old) (W.taken writer.old) (behind header.now key.now header.now plain) }
-    ensures sealed { HasSealedRounds header.now key.now header.now max_bytes window (R.left reader.old)
-        (R.left reader.new)
-        (R.failures reader.old) (R.failures reader.new) (W.taken writer.old) (W.taken writer.new)
-        (W.failures writer.old) (W.failures writer.new) result }
+    ensures sealed { HasSealedRounds header.now key.now header.now max_bytes window
+        (io_view (R.left reader.old) (R.failures reader.old) (W.taken writer.old) (W.failures writer.old))
+        (io_view (R.left reader.new) (R.failures reader.new) (W.taken writer.new) (W.failures writer.new)) result }
 {
     let each = each_of(header.chunk(), workers, window);
     let group = (window / each) as usize;

@@ -8,6 +8,7 @@ ghost use Rattle.container_core.specs.Container.{container};
 ghost use Rattle.journal_core.specs.declared.entry.Way.TheVariants.{Sealed, Void};
 ghost use Rattle.ledger_core.specs.Range.{prefix_of};
 ghost use Rattle.ledger_core.specs.Shared.{spent_as};
+ghost use Rattle.io_core.specs.Views.{io_view};
 ghost use Rattle.sealing_core.specs.Engine.{HasReadPlain, HasWrittenRounds};
 ghost use Rattle.output_core.specs.Bounds.{Admits};
 
@@ -58,8 +59,8 @@ pub fn run_seal_by<T: Threads + Wait + Sync, R: Source, W: Output, G: Gate + Syn
     ensures reads { HasReadPlain max_bytes (R.left reader.old) (R.left reader.new)
         (R.failures reader.old) (R.failures reader.new) result.0 }
     ensures writes { HasWrittenRounds key.now shape.now (prefix_of grant.device grant.number) max_bytes window
-        (R.left reader.old) (R.left reader.new) (W.taken writer.old) (W.taken writer.new)
-        (W.failures writer.old) (W.failures writer.new) result.0 }
+        (io_view (R.left reader.old) (R.failures reader.old) (W.taken writer.old) (W.failures writer.old))
+        (io_view (R.left reader.new) (R.failures reader.new) (W.taken writer.new) (W.failures writer.new)) result.0 }
     // A file is bounded by bytes.
     ensures by_bytes { result.0 ≢ Err SealFault.TooManyChunks }
 
@@ -96,8 +97,8 @@ pub fn run_seal<T: Threads + Wait + Sync, R: Source, W: Output, G: Gate + Sync>(
     ensures reads { HasReadPlain max_bytes (R.left reader.old) (R.left reader.new)
         (R.failures reader.old) (R.failures reader.new) result.0 }
     ensures writes { HasWrittenRounds key.now shape.now (prefix_of grant.device grant.number) max_bytes DEFAULT_WINDOW
-        (R.left reader.old) (R.left reader.new) (W.taken writer.old) (W.taken writer.new)
-        (W.failures writer.old) (W.failures writer.new) result.0 }
+        (io_view (R.left reader.old) (R.failures reader.old) (W.taken writer.old) (W.failures writer.old))
+        (io_view (R.left reader.new) (R.failures reader.new) (W.taken writer.new) (W.failures writer.new)) result.0 }
     ensures by_bytes { result.0 ≢ Err SealFault.TooManyChunks }
     ensures sealed { OnOk result.0 (result.1 ≡ spent_as grant Sealed) }
     ensures void { OnErr result.0 (result.1 ≡ spent_as grant Void) }

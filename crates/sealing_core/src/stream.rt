@@ -2,6 +2,7 @@
 ghost use Rattle.std.specs.Prelude.{◌≡◌, ℕ, ◌+◌, ◌-◌, ◌*◌, ◌^◌, ◌<◌, ◌≤◌, List, [], OnOk, IfOk, IfSome, length};
 ghost use Rattle.std.specs.Thread.{IsSync};
 ghost use Rattle.crossbeam_queue.specs.Passes.{view, IsPassOf};
+ghost use Rattle.io_core.specs.Views.{io_view};
 ghost use Rattle.output_core.specs.Bounds.{Admits};
 ghost use Rattle.sealing_core.specs.Hands.{newcomer, HasRelayed, HasAll, EachOnce};
 ghost use Rattle.sealing_core.specs.Order.{behind};
@@ -102,8 +103,9 @@ fn crew<N: Naming + Send + Sync, T: Threads + Wait + Sync, R: Source, W: Output,
     ensures from { IsPassOf queues.now.pieces.now hands.new.from
         × ((view hands.new.from).parts ≡ (view hands.old.from).parts) }
     ensures sealed { HasSealedRounds context.now.front.now N.key N.header (context.now.plan.limit - 1)
-        (context.now.plan.group * N.each) N.told (R.left reader.new) (R.failures reader.old) (R.failures reader.new)
-        (W.taken writer.old) (W.taken writer.new) (W.failures writer.old) (W.failures writer.new) result }
+        (context.now.plan.group * N.each)
+        (io_view N.told (R.failures reader.old) (W.taken writer.old) (W.failures writer.old))
+        (io_view (R.left reader.new) (R.failures reader.new) (W.taken writer.new) (W.failures writer.new)) result }
     ensures all { OnOk result ((n : ℕ) × HasAll n (view hands.new.into) (view hands.new.from)) }
 {
     if upto == 1 {
@@ -141,9 +143,10 @@ fn crew<N: Naming + Send + Sync, T: Threads + Wait + Sync, R: Source, W: Output,
             × (IsPassOf queues.entry.now.pieces.now hands.exit.now.from
             × ((view hands.exit.now.from).parts ≡ (view hands.entry.now.from).parts))
             × HasSealedRounds context.entry.now.front.now N.key N.header (context.entry.now.plan.limit - 1)
-            (context.entry.now.plan.group * N.each) N.told (R.left reader.exit.now)
-            (R.failures reader.entry.now) (R.failures reader.exit.now) (W.taken writer.entry.now)
-            (W.taken writer.exit.now) (W.failures writer.entry.now) (W.failures writer.exit.now) result }
+            (context.entry.now.plan.group * N.each)
+            (io_view N.told (R.failures reader.entry.now) (W.taken writer.entry.now) (W.failures writer.entry.now))
+            (io_view (R.left reader.exit.now) (R.failures reader.exit.now) (W.taken writer.exit.now)
+            (W.failures writer.exit.now)) result }
     {
         crew(
             rt, alloc, queues, context, reader, writer, round, last, hands,
@@ -188,8 +191,9 @@ pub(crate) fn through<
     requires may { (plain : List ℕ)
         → Admits (W.bound writer.old) (W.taken writer.old) (behind context.now.front.now N.key N.header plain) }
     ensures sealed { HasSealedRounds context.now.front.now N.key N.header (context.now.plan.limit - 1)
-        (context.now.plan.group * N.each) N.told (R.left reader.new) (R.failures reader.old) (R.failures reader.new)
-        (W.taken writer.old) (W.taken writer.new) (W.failures writer.old) (W.failures writer.new) result.0 }
+        (context.now.plan.group * N.each)
+        (io_view N.told (R.failures reader.old) (W.taken writer.old) (W.failures writer.old))
+        (io_view (R.left reader.new) (R.failures reader.new) (W.taken writer.new) (W.failures writer.new)) result.0 }
     ensures once { OnOk result.0 (IfSome result.1 (λ hands. (n : ℕ) × EachOnce n (view hands.into) (view hands.from))) }
 {
     let Ok(bells) = bells_of(alloc, workers) else {

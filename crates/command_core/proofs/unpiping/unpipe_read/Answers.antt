@@ -45,7 +45,7 @@ returns-in-Ok-fill_again-clause-run g c = λ before tells.
     let kept = kept_again _ _ _ _ _ _ _ _ _ _ _ _ _ _ c.in-Ok-again.ensures.taken c.in-Ok-again.ensures.failures c.requires.fresh
     c.in-Ok-again.ensures.again c.allow_checked.ensures.allowed c.allow_checked.ensures.fresh c.allow_checked.ensures.kept in
     rw (c.in-Ok-fill_again.ensures.rest, sym kept.0, sym kept.1)
-    (opened_unpiped _ _ _ _ _ _ _ _ _ _ _ _ _ _ _ _ _ _ _ (headed_of _ _ _ _ _ _ c.in-Ok.ensures.header c.in-Ok.ensures.good)
+    (opened_unpiped _ _ _ _ _ _ _ _ _ _ _ _ _ _ _ _ _ _ _ _ (headed_of _ _ _ _ _ _ c.in-Ok.ensures.header c.in-Ok.ensures.good)
     c.in-Ok.ensures.label c.allow_checked.ensures.allowed c.in-Ok-fill_again.ensures.written c.in-Ok-again.ensures.again tells)
 
 pub returns-in-Err-fill_again-clause-run : goal.returns-in-Err-fill_again-clause-run
@@ -53,5 +53,5 @@ returns-in-Err-fill_again-clause-run g c = λ before tells.
     let kept = kept_again _ _ _ _ _ _ _ _ _ _ _ _ _ _ c.in-Ok-again.ensures.taken c.in-Ok-again.ensures.failures c.requires.fresh
     c.in-Ok-again.ensures.again c.allow_checked.ensures.allowed c.allow_checked.ensures.fresh c.allow_checked.ensures.kept in
     rw (c.in-Err-fill_again.ensures.rest, c.fault_again.ensures, sym kept.0, sym kept.1)
-    (stopped_unpiped _ _ _ _ _ _ _ _ _ _ _ _ _ _ _ _ _ _ _ (headed_of _ _ _ _ _ _ c.in-Ok.ensures.header c.in-Ok.ensures.good)
+    (stopped_unpiped _ _ _ _ _ _ _ _ _ _ _ _ _ _ _ _ _ _ _ _ (headed_of _ _ _ _ _ _ c.in-Ok.ensures.header c.in-Ok.ensures.good)
     c.allow_checked.ensures.allowed c.in-Err-fill_again.ensures.written c.in-Ok-again.ensures.again tells)

@@ -11,7 +11,7 @@ write_again-done-requires-clause-may g c κs within =
 
 pub returns : goal.returns
 returns g c =
-    twice-done _ c.in-Ok-checked.header _ _ _ _ _ _ _ _ _ _ _ _ _ _ _ c.in-Ok.ensures.left
+    twice-done _ c.in-Ok-checked.header _ _ _ _ _ _ _ _ _ _ _ _ _ _ _ _ _ c.in-Ok.ensures.left
     (Keeps-trans _ _ _ c.begin.ensures.same c.end.ensures.same) c.in-Ok-begin.ensures.left c.in-Ok-checked.ensures.header
     c.in-Ok-checked.ensures.length c.write_again-done.ensures
     (counts-next _ _ _ _

@@ -43,7 +43,7 @@ write_body-requires-clause-may g c κs within =
 
 pub returns-in-Err : goal.returns-in-Err
 returns-in-Err g c =
-    again-front c.args.key.now c.args.header.now c.args.max_bytes c.in-Err.fault c.stop_at.result _ _ _ _ _ c.in-Err.ensures.reads.fault
+    again-front c.args.key.now c.args.header.now c.args.max_bytes c.in-Err.fault c.stop_at.result _ _ _ _ _ _ c.in-Err.ensures.reads.fault
     c.stop_at.ensures.changed c.stop_at.ensures.broken c.stop_at.ensures.checked_before
     (c.in-Err.ensures.reads.read ∙ ap (λ b. counted b (g.R.Source.failures c.args.reader.now)) (sym c.stop_at.ensures.read))
     (c.stop_at.ensures.write ∙ no_write-unwritten c.in-Err.fault c.in-Err.ensures.no_write)

@@ -4,7 +4,7 @@ use Rattle.journal_core.specs.Journal.{terms_of}
 use Rattle.journal_core.specs.Text.{journal_text}
 use Rattle.ledger_core.specs.Closing.{IsWhole}
 use Rattle.ledger_core.specs.Shared.{SeatView}
-use Rattle.sealing_core.specs.Piped.{stream_view}
+use Rattle.io_core.specs.Views.{io_view}
 use Rattle.command_core.specs.Turns.{printed}
 use Rattle.command_core.proofs.Telling.{nothing_told}
 use Rattle.sealer_core.specs.Sealing.{IsWritten}
@@ -42,7 +42,7 @@ returns-in-Ok-end_ledger-clause-run g c =
       c.in-Ok.ensures.lawful,
       c.in-Ok.ensures.witnessed,
       has_stream _ _ c.args.key.now ledger (terms_of range 1) seats history _ _ _ _ _ c.pipe_alone-outcome.result _ _ _ terms
-          (ap₂ (stream_view (g.R.Source.left c.args.reader.now) (g.R.Source.failures c.args.reader.now)) c.start_record.ensures.taken c.start_record.ensures.failures)
+          (ap₂ (io_view (g.R.Source.left c.args.reader.now) (g.R.Source.failures c.args.reader.now)) c.start_record.ensures.taken c.start_record.ensures.failures)
           c.start_record.ensures.began c.pipe_alone-outcome.ensures.all (subst (λ (s : List SeatView). IsWhole ledger.terms s history) back whole)
           c.pipe_alone-outcome.ensures.piped (c.tell-told.ensures _ _ _ (nothing_told _ _)),
       subst (λ (t : Terms). IsWritten g.J.Report.taken (journal_text t history) true c.args.out.now.journal c.end_ledger.new.journal) terms
@@ -69,7 +69,7 @@ returns-in-Err-end_ledger-clause-run g c =
       c.in-Ok.ensures.lawful,
       c.in-Ok.ensures.witnessed,
       has_stream _ _ c.args.key.now ledger (terms_of range 1) seats history _ _ _ _ _ c.pipe_alone-outcome.result _ _ _ terms
-          (ap₂ (stream_view (g.R.Source.left c.args.reader.now) (g.R.Source.failures c.args.reader.now)) c.start_record.ensures.taken c.start_record.ensures.failures)
+          (ap₂ (io_view (g.R.Source.left c.args.reader.now) (g.R.Source.failures c.args.reader.now)) c.start_record.ensures.taken c.start_record.ensures.failures)
           c.start_record.ensures.began c.pipe_alone-outcome.ensures.all (subst (λ (s : List SeatView). IsWhole ledger.terms s history) back whole)
           c.pipe_alone-outcome.ensures.piped (c.tell-told.ensures _ _ _ (nothing_told _ _)),
       subst (λ (t : Terms). IsWritten g.J.Report.taken (journal_text t history) false c.args.out.now.journal c.end_ledger.new.journal) terms

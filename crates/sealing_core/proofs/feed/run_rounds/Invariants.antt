@@ -1,6 +1,7 @@
 -- What was read, put, written, and is in hand.
 use Rattle.std.proofs.Common.{◌≡◌, ◌+◌, ◌≤◌, All, length, deque_capacity}
 use Rattle.crossbeam_queue.specs.Passes.{view, IsPassOf}
+use Rattle.sealing_core.specs.Hands.{hands_view}
 use Rattle.sealing_core.specs.Order.{AreWritten}
 use Rattle.sealing_core.specs.Pieces.{room}
 use Rattle.sealing_core.specs.Round.{IsHanded, IsUnderWay}
@@ -11,7 +12,7 @@ invariant-loop g l = record {
   jobs : IsPassOf l.queues.jobs.now l.hands.into;
   pieces : IsPassOf l.queues.pieces.now l.hands.from;
   parts : ((view l.hands.into).parts ≡ (view l.initial.hands.into).parts) × ((view l.hands.from).parts ≡ (view l.initial.hands.from).parts);
-  way : IsUnderWay g.N.Naming.each g.N.Naming.key g.N.Naming.header g.N.Naming.told (g.R.Source.left l.reader) l.plan l.early (view l.hands.into) (view l.hands.from) l.round;
+  way : IsUnderWay g.N.Naming.each g.N.Naming.key g.N.Naming.header g.N.Naming.told (g.R.Source.left l.reader) l.plan l.early (hands_view (view l.hands.into) (view l.hands.from)) l.round;
   handed : IsHanded l.plan.group l.round;
   spare : All (λ b. length b.items ≡ room g.N.Naming.each g.N.Naming.header) l.spare.items;
   room : (l.plan.depth ≤ deque_capacity l.early.places) × (l.plan.group ≤ deque_capacity l.round.held)

@@ -15,10 +15,10 @@ pipe-requires-clause-may g c κs within =
 
 pub returns-in-Ok-clause-pipes : goal.returns-in-Ok-clause-pipes
 returns-in-Ok-clause-pipes g c =
-    piped-container c.args.key.now _ c.of-header.result c.args.shape.now _ _ _ _ _ _ _ _ _ _
+    piped-container c.args.key.now _ c.of-header.result c.args.shape.now _ _ _ _
     (c.of-header.ensures.header ∙ ap (header_of c.args.key.now c.args.shape.now) c.prefix.ensures) c.in-Ok.ensures.piped
 
 pub returns-in-Err-clause-pipes : goal.returns-in-Err-clause-pipes
 returns-in-Err-clause-pipes g c =
-    piped-container c.args.key.now _ c.of-header.result c.args.shape.now _ _ _ _ _ _ _ _ _ _
+    piped-container c.args.key.now _ c.of-header.result c.args.shape.now _ _ _ _
     (c.of-header.ensures.header ∙ ap (header_of c.args.key.now c.args.shape.now) c.prefix.ensures) c.in-Err.ensures.piped

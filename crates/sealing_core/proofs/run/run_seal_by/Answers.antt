@@ -14,17 +14,17 @@ pipe_rounds-requires-clause-may g c κs within =
     (c.of-header.ensures.header ∙ ap (header_of c.args.key.now c.args.shape.now) c.prefix.ensures) c.requires.may
 
 pub returns-in-Ok-clause-reads : goal.returns-in-Ok-clause-reads
-returns-in-Ok-clause-reads g c = rounds-read c.args.key.now c.of-header.result _ _ _ _ _ _ _ _ _ _ _ c.in-Ok.ensures.sealed
+returns-in-Ok-clause-reads g c = rounds-read c.args.key.now c.of-header.result _ _ _ _ _ c.in-Ok.ensures.sealed
 
 pub returns-in-Ok-clause-writes : goal.returns-in-Ok-clause-writes
 returns-in-Ok-clause-writes g c =
-    rounds-container c.args.key.now _ c.of-header.result c.args.shape.now _ _ _ _ _ _ _ _ _ _ _
+    rounds-container c.args.key.now _ c.of-header.result c.args.shape.now _ _ _ _ _
     (c.of-header.ensures.header ∙ ap (header_of c.args.key.now c.args.shape.now) c.prefix.ensures) c.in-Ok.ensures.sealed
 
 pub returns-in-Err-clause-reads : goal.returns-in-Err-clause-reads
-returns-in-Err-clause-reads g c = rounds-read c.args.key.now c.of-header.result _ _ _ _ _ _ _ _ _ _ _ c.in-Err.ensures.sealed
+returns-in-Err-clause-reads g c = rounds-read c.args.key.now c.of-header.result _ _ _ _ _ c.in-Err.ensures.sealed
 
 pub returns-in-Err-clause-writes : goal.returns-in-Err-clause-writes
 returns-in-Err-clause-writes g c =
-    rounds-container c.args.key.now _ c.of-header.result c.args.shape.now _ _ _ _ _ _ _ _ _ _ _
+    rounds-container c.args.key.now _ c.of-header.result c.args.shape.now _ _ _ _ _
     (c.of-header.ensures.header ∙ ap (header_of c.args.key.now c.args.shape.now) c.prefix.ensures) c.in-Err.ensures.sealed
