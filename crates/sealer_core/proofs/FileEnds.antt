@@ -182,13 +182,11 @@ module _ {H : Type 0} (at : H → ℕ) (under : SealedUnder) (base more : List E
 
 -- ---- by the file and the outcomes
 
--- how it ended, and the outcomes that are left for the inputs of others
-abbrev Goes : {H : Type 0} → SealedUnder → Prepared H → List (List ℕ) → List Outcome → FileOutcome → List Entry → List Entry → List Entry
-    → RunRecord → RunRecord → Type 0
-Goes under file others outcomes end base first more r r' =
-    Ended under file outcomes end base first more r r' × AreLeft under others (left_by file outcomes)
-
 module _ {H : Type 0} (at : H → ℕ) (under : SealedUnder) (base more : List Entry) (r r' : RunRecord) (idle : r.in_hand ≡ None) where
+  -- how it ended, and the outcomes that are left for the inputs of others
+  abbrev Goes : Prepared H → List (List ℕ) → List Outcome → FileOutcome → List Entry → Type 0
+  Goes file others outcomes end first = Ended under file outcomes end base first more r r' × AreLeft under others (left_by file outcomes)
+
   -- it was read
   module _ (name : Bor (List ℕ)) (output : H) (bytes : ℕ) (input : List ℕ) (others : List (List ℕ)) (there : at output ≡ suc (length base)) (count : bytes ≡ length input)
       (within : length input ≤ under.most) (entries : r.entries ≡ base ++ (waiting_entries name.now input false ++ more)) where
@@ -204,7 +202,7 @@ module _ {H : Type 0} (at : H → ℕ) (under : SealedUnder) (base more : List E
     read_sealed : (seat : ℕ) (items : Vec ℕ Global) (spent : SpentView) (outcomes : List Outcome) (end : FileOutcome)
         → items.items ≡ container under.key under.shape (prefix_of spent.device spent.number) input → spent.device ≡ under.device → AreLeft under others outcomes
         → IsPut (at output) (Container spent.number under.shape) items.items spent.number bytes end (Some r) (Some r')
-        → Goes under its others (job.Sealed seat items spent ∷ outcomes) end base begun more r r'
+        → Goes its others (job.Sealed seat items spent ∷ outcomes) end begun
     read_sealed seat items spent outcomes (Sealed n m) whole device left (same, long, becomes) = (
       record {
         new = given (record { name = sealed_name name.now; content = Container spent.number under.shape; bytes = items.items; failures = 0; state = Finished });
@@ -227,7 +225,7 @@ module _ {H : Type 0} (at : H → ℕ) (under : SealedUnder) (base more : List E
       left,
     )
     read_sealed seat items spent outcomes (Failed fault) whole device left (same, (held, front, becomes)) =
-        subst (λ e. Goes under its others (job.Sealed seat items spent ∷ outcomes) e base begun more r r') (sym same) (
+        subst (λ e. Goes its others (job.Sealed seat items spent ∷ outcomes) e begun) (sym same) (
           record {
             new = given (record { name = sealed_name name.now; content = Container spent.number under.shape; bytes = held; failures = 1; state = GivenUp });
             adds = adds_given_up under name.now input sealing_fault.Write (Container spent.number under.shape) held 1
@@ -244,9 +242,9 @@ module _ {H : Type 0} (at : H → ℕ) (under : SealedUnder) (base more : List E
     read_sealed seat items spent outcomes (Shown n facts) whole device left (same, put) = absurd (cc)
 
     read_ended : (outcomes : List Outcome) (end : FileOutcome) → AreLeft under (input ∷ others) outcomes
-        → IsEndBy (at output) under.shape bytes outcomes end (Some r) (Some r') → Goes under its others outcomes end base begun more r r'
+        → IsEndBy (at output) under.shape bytes outcomes end (Some r) (Some r') → Goes its others outcomes end begun
     read_ended [] end left (same, becomes) =
-        subst (λ e. Goes under its others [] e base begun more r r') (sym same) (
+        subst (λ e. Goes its others [] e begun) (sym same) (
           record {
             new = given (record { name = sealed_name name.now; content = Nothing; bytes = []; failures = 0; state = GivenUp });
             adds = adds_unused under name.now input sealing_fault.OutOfMemory refl;
@@ -258,7 +256,7 @@ module _ {H : Type 0} (at : H → ℕ) (under : SealedUnder) (base more : List E
         )
     read_ended (job.Sealed seat items spent ∷ outcomes) end (one, of, left) put = read_sealed seat items spent outcomes end one.0 of.0 left put
     read_ended (job.Spoiled seat spent ∷ outcomes) end (one, of, left) (same, becomes) =
-        subst (λ e. Goes under its others (job.Spoiled seat spent ∷ outcomes) e base begun more r r') (sym same) (
+        subst (λ e. Goes its others (job.Spoiled seat spent ∷ outcomes) e begun) (sym same) (
           record {
             new = given (record { name = sealed_name name.now; content = Container spent.number under.shape; bytes = []; failures = 0; state = GivenUp });
             adds = adds_given_up under name.now input sealing_fault.OutOfMemory (Container spent.number under.shape) [] 0
@@ -270,7 +268,7 @@ module _ {H : Type 0} (at : H → ℕ) (under : SealedUnder) (base more : List E
           left,
         )
     read_ended (job.Unissued seat why ∷ outcomes) end (one, of, left) (same, becomes) =
-        subst (λ e. Goes under its others (job.Unissued seat why ∷ outcomes) e base begun more r r') (sym same) (
+        subst (λ e. Goes its others (job.Unissued seat why ∷ outcomes) e begun) (sym same) (
           record {
             new = given (record { name = sealed_name name.now; content = Nothing; bytes = []; failures = 0; state = GivenUp });
             adds = adds_unissued under name.now input why;
@@ -284,7 +282,7 @@ module _ {H : Type 0} (at : H → ℕ) (under : SealedUnder) (base more : List E
   -- any file
   file_ended : (file : Prepared H) (own others inputs : List (List ℕ)) (place : ℕ) (first : List Entry) (outcomes : List Outcome) (end : FileOutcome)
       → IsWaiting at under file own place first → place ≡ length base → r.entries ≡ base ++ (first ++ more) → inputs ≡ own ++ others → AreLeft under inputs outcomes
-      → IsEndIn at under.shape outcomes file end (Some r) (Some r') → Goes under file others outcomes end base first more r r'
+      → IsEndIn at under.shape outcomes file end (Some r) (Some r') → Goes file others outcomes end first
   file_ended (Refused name fault) own others inputs place first outcomes end (none, adds, are) here entries all left (same, is) =
       let kept : r' ≡ r = cc in (
         record {
@@ -298,7 +296,7 @@ module _ {H : Type 0} (at : H → ℕ) (under : SealedUnder) (base more : List E
       )
   file_ended (Unread name output fault) own others inputs place first outcomes end (input, (there, none, why), is) here entries all left (same, becomes) =
       let waits : r.entries ≡ base ++ (waiting_entries name.now input (is_failed_read fault) ++ more) = entries ∙ ap (λ l. base ++ (l ++ more)) is in
-      subst (λ e. Goes under (Unread name output fault) others outcomes e base first more r r') (sym same) (
+      subst (λ e. Goes (Unread name output fault) others outcomes e first) (sym same) (
         record {
           new = read_entries name.now input (record { name = sealed_name name.now; content = Nothing; bytes = []; failures = 0; state = GivenUp }) (is_failed_read fault);
           adds = adds_unused under name.now input fault why;
@@ -310,7 +308,7 @@ module _ {H : Type 0} (at : H → ℕ) (under : SealedUnder) (base more : List E
       )
   file_ended (Read name output bytes) own others inputs place first outcomes end (input, (there, one, count, within), is) here entries all left how =
       let waits : r.entries ≡ base ++ (waiting_entries name.now input false ++ more) = entries ∙ ap (λ l. base ++ (l ++ more)) is in
-      subst (λ l. Goes under (Read name output bytes) others outcomes end base l more r r') (sym is)
+      subst (λ l. Goes (Read name output bytes) others outcomes end l) (sym is)
       (read_ended name output bytes input others (there ∙ ap suc here) count within waits outcomes end
       (subst (λ l. AreLeft under l outcomes) (all ∙ ap (λ l. l ++ others) one) left) how)
 
