@@ -1,8 +1,11 @@
-use Rattle.std.proofs.Common.{IfSome, ap, subst, ◌∙◌}
+use Rattle.std.proofs.Common.{IfSome, ap, rules, subst, ◌∙◌}
 use Rattle.ledger_core.specs.Rule.{IsHeld}
 use Rattle.ledger_core.specs.Shared.{GrantView}
 use Rattle.ledger_core.proofs.ledger.Ledger.issue.Goals as goal
 use Rattle.ledger_core.proofs.ledger.Ledger.issue.Goals.{in-Some, in-None}
+
+pub issue_in-number-requires-clause-room : goal.issue_in-number-requires-clause-room
+issue_in-number-requires-clause-room c = search rules
 
 pub returns-clause-held : goal.returns-clause-held
 returns-clause-held c = elim c.match-number.branch [
