@@ -1,4 +1,4 @@
-use Rattle.std.proofs.Common.{sym, subst, arith}
+use Rattle.std.proofs.Common.{rules, sym, subst, arith}
 use Rattle.sqlite.specs.State.{HasCleanDisk}
 use Rattle.sqlite.specs.Held.{state}
 use Rattle.sqlite.specs.Effect.{Database}
@@ -26,3 +26,12 @@ returns-clause-shut g c =
     survives_then (state g.S.Store c.self.inside.conn) (state g.S.Store c.mark_of.new.conn) (state g.S.Store c.append_range.new.conn) (λ _. ⊥) _ (λ _. ⊥) (λ _ db none. none) (λ clean trees it.
     let at_mid : HasCleanDisk (state g.S.Store c.mark_of.new.conn) = omega (arith, c.append_range.ensures.crash.clean) in
     absurd (let was = rw shut at (c.mark_of.ensures.was_open at_mid it.0) in cc)) c.mark_of.ensures.crash c.append_range.ensures.crash)
+
+pub returns-clause-appends : goal.returns-clause-appends
+returns-clause-appends g c = search rules
+
+pub returns-clause-floor : goal.returns-clause-floor
+returns-clause-floor g c = search rules
+
+pub returns-clause-live : goal.returns-clause-live
+returns-clause-live g c = search rules
