@@ -4,7 +4,7 @@ ghost use Rattle.command_core.specs.GrantedRange.{StandsIn};
 ghost use Rattle.folder_core.specs.Changes.{Becomes, IsUnstarted, started};
 
 use container_core::Key;
-use folder_core::Outputs;
+use folder_core::{Outputs, Stream};
 use io_core::Sink;
 use ledger_core::Ledger;
 use reserve_core::{Fold, LedgerFile};
@@ -23,7 +23,7 @@ pub trait SealingOutputs: Outputs {
         ensures failures { Self.failures self.new ≡ Self.failures self.old };
 }
 
-/// A writer has no record.
-impl<W: Sink> SealingOutputs for W {
+/// A stream has no record.
+impl<W: Sink> SealingOutputs for Stream<W> {
     fn start<S: Fold>(&mut self, _file: &LedgerFile<S>, _key: &Key, _ledger: &Ledger) {}
 }

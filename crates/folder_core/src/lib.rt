@@ -27,5 +27,5 @@ pub use crate::places::{PlaceFault, are_apart, last_name, put_below};
 pub use crate::quotes::{quote, unquote};
 pub use crate::reader::{FileReader, WholeFile};
 pub use crate::spool::{Spool, Spooled};
-pub use crate::stream::{Stream, ToStream};
+pub use crate::stream::{OneOutput, Stream, ToStream};
 pub use crate::trees::{are_placed_apart, first_part, place_of, put_placed};

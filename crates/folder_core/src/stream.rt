@@ -10,24 +10,30 @@ use crate::folder::{Folder, OpeningFolder, Outputs, Place, Whole};
 use container_core::{Header, Key, Shape};
 use io_core::{Failed, Sink};
 
-/// The one output of a writer.
-#[derive(Clone, Copy, Debug)]
-pub struct Stream;
+/// Stands for the output of a stream.
+#[derive(Debug, Drop)]
+pub struct OneOutput;
 
-impl Place for Stream {}
+impl Place for OneOutput {}
 
-/// A writer has one output, which may hold anything. It doesn't end.
-impl<W: Sink> Outputs for W {
-    type Handle = Stream;
+/// A writer, as outputs of which there is one. That may hold anything, and doesn't end.
+#[derive(Drop)]
+pub struct Stream<W: Sink> {
+    /// The writer.
+    pub writer: W,
+}
 
-    ghost taken = { λ w. W.taken w };
+impl<W: Sink> Outputs for Stream<W> {
+    type Handle = OneOutput;
 
-    ghost failures = { λ w. W.failures w };
+    ghost taken = { λ s. W.taken s.writer };
 
-    fn allow_container(&mut self, _output: Stream, _number: u32, _shape: &Shape) {}
+    ghost failures = { λ s. W.failures s.writer };
+
+    fn allow_container(&mut self, _output: OneOutput, _number: u32, _shape: &Shape) {}
 
     fn write(&mut self, bytes: &[u8]) -> Result<usize, Failed> {
-        Sink::write(self, bytes)
+        self.writer.write(bytes)
     }
 
     fn finish(&mut self) -> Result<(), Failed> {
@@ -42,21 +48,18 @@ impl<W: Sink> Outputs for W {
 }
 
 /// A folder from which files are read, and a stream to which one of them is opened. No other output can be created.
-///
-/// A call that takes one is made in a function over any folder and any writer: of types that are named, both this and
-/// every `Sink` could be the outputs.
 #[derive(Drop)]
-pub struct ToStream<F: Folder + Drop, W: Sink + Drop> {
+pub struct ToStream<F: Folder, W: Sink> {
     /// The folder.
     pub folder: F,
-    /// The writer of the stream.
-    pub stream: W,
+    /// The stream.
+    pub stream: Stream<W>,
     ghost idle: { IsIdle (F.rest folder) } by { Prim.hlevel props },
 }
 
-impl<F: Folder + Drop, W: Sink + Drop> ToStream<F, W> {
+impl<F: Folder, W: Sink> ToStream<F, W> {
     /// A folder in which nothing is in hand, and a stream.
-    pub fn of(folder: F, stream: W) -> ToStream<F, W>
+    pub fn of(folder: F, stream: Stream<W>) -> ToStream<F, W>
         requires idle { IsIdle (F.rest folder) }
         ensures folder { result.folder ≡ folder }
         ensures stream { result.stream ≡ stream }
@@ -65,31 +68,33 @@ impl<F: Folder + Drop, W: Sink + Drop> ToStream<F, W> {
     }
 }
 
-impl<F: Folder + Drop, W: Sink + Drop> Outputs for ToStream<F, W> {
-    type Handle = Stream;
+impl<F: Folder, W: Sink> Outputs for ToStream<F, W> {
+    type Handle = OneOutput;
 
-    ghost taken = { λ t. W.taken t.stream };
+    ghost taken = { λ t. W.taken t.stream.writer };
 
-    ghost failures = { λ t. W.failures t.stream };
+    ghost failures = { λ t. W.failures t.stream.writer };
 
-    fn allow_container(&mut self, _output: Stream, _number: u32, _shape: &Shape) {}
+    fn allow_container(&mut self, output: OneOutput, number: u32, shape: &Shape) {
+        self.stream.allow_container(output, number, shape);
+    }
 
     fn write(&mut self, bytes: &[u8]) -> Result<usize, Failed> {
-        Sink::write(&mut self.stream, bytes)
+        self.stream.write(bytes)
     }
 
     fn finish(&mut self) -> Result<(), Failed> {
-        Ok(())
+        self.stream.finish()
     }
 
     fn discard(&mut self) -> Result<(), Failed> {
-        Ok(())
+        self.stream.discard()
     }
 
     ghost sound = { λ _. ∣ (tt, tt) ∣₁ };
 }
 
-impl<F: Folder + Drop, W: Sink + Drop> Folder for ToStream<F, W> {
+impl<F: Folder, W: Sink> Folder for ToStream<F, W> {
     type Reader = F::Reader;
 
     fn open(&mut self, name: &str) -> Result<F::Reader, Failed> {
@@ -112,21 +117,21 @@ impl<F: Folder + Drop, W: Sink + Drop> Folder for ToStream<F, W> {
         self.folder.close(name, reader);
     }
 
-    fn create(&mut self, _name: &str) -> Result<Stream, FolderFault> {
+    fn create(&mut self, _name: &str) -> Result<OneOutput, FolderFault> {
         Err(FolderFault::Failed)
     }
 
-    fn abandon(&mut self, _output: Stream) -> Result<(), Failed> {
+    fn abandon(&mut self, _output: OneOutput) -> Result<(), Failed> {
         Err(Failed)
     }
 }
 
-impl<F: Folder + Drop, W: Sink + Drop> OpeningFolder for ToStream<F, W> {
-    fn allow_plain<N: Whole>(&mut self, _output: Stream) {}
+impl<F: Folder, W: Sink> OpeningFolder for ToStream<F, W> {
+    fn allow_plain<N: Whole>(&mut self, _output: OneOutput) {}
 
     fn allow_checked(
         &mut self,
-        _output: Stream,
+        _output: OneOutput,
         _key: &Key,
         _header: &Header,
         _reader: &F::Reader,

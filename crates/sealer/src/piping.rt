@@ -27,7 +27,8 @@ use command_line::{PipeRequest, UsageFault, pipe_request};
 use container_core::Key;
 use ledger_core::{FromRead, Sink, Source, ToWrite};
 use sealer_core::{
-    LedgerFile, MAX_DEPTH, MAX_WORKERS, Outs, PipeOptions, Report, Stream, Witness, pipe_all,
+    LedgerFile, MAX_DEPTH, MAX_WORKERS, OneOutput, Outs, PipeOptions, Report, Stream, Witness,
+    pipe_all,
 };
 use sqlite::{FileFrom, FileStore, Start, Wary};
 use std::io::{Read, Write, sink};
@@ -106,7 +107,7 @@ fn pipe_to<
         errors,
         terminals,
     } = streams;
-    let mut output = output;
+    let mut writer = Stream { writer: output };
     let mut out = Outs {
         lines: ToWrite(sink()),
         faults: errors,
@@ -119,10 +120,11 @@ fn pipe_to<
         &key,
         request,
         &mut input,
-        &mut output,
+        &mut writer,
         &mut out,
         causes,
     );
+    let Stream { writer: output } = writer;
     let streams = Streams {
         output,
         errors: out.faults,
@@ -147,7 +149,7 @@ fn pipe_in_turn<
     key: &Key,
     request: &PipeRequest<'r>,
     reader: &mut R,
-    writer: &mut W,
+    writer: &mut Stream<W>,
     out: &mut Outs<L, E, J>,
     causes: bool,
 ) -> u8
@@ -187,7 +189,7 @@ fn pipe_once<
     key: &Key,
     request: &PipeRequest<'r>,
     reader: &mut R,
-    writer: &mut W,
+    writer: &mut Stream<W>,
     out: &mut Outs<L, E, J>,
     causes: bool,
 ) -> Result<u8, Refusal>
@@ -260,7 +262,7 @@ fn pipe_from<
     start: S,
     witness: &mut N,
     reader: &mut R,
-    writer: &mut W,
+    writer: &mut Stream<W>,
     out: &mut Outs<L, E, J>,
 ) -> Result<(u8, LedgerFile<FileStore<FileFrom<S>>>), LedgerFault>
     requires workers { (0 < request.now.workers) × (request.now.workers ≤ MAX_WORKERS) }
@@ -284,8 +286,8 @@ fn pipe_from<
         × IsLawfulRange range
         × IsWitnessed (N.floor witness.old) (N.recorded witness.old) (N.recorded witness.new) range
         × HasSealedStream (sealed_under key.now request.now.shape range.device request.now.max_chunks) 0
-        (pipe_view (R.left reader.old) (R.failures reader.old) (W.taken writer.old) (W.failures writer.old) None)
-        (pipe_view (R.left reader.new) (R.failures reader.new) (W.taken writer.new) (W.failures writer.new) None)
+        (pipe_view (R.left reader.old) (R.failures reader.old) (W.taken writer.old.writer) (W.failures writer.old.writer) None)
+        (pipe_view (R.left reader.new) (R.failures reader.new) (W.taken writer.new.writer) (W.failures writer.new.writer) None)
         (terms_of range 1) history told (printed (E.taken out.old.faults) (E.failures out.old.faults)) line
         × IsWritten J.taken (journal_text (terms_of range 1) history) written out.old.journal out.new.journal
         × (r.0 ≡ (if written then told else 2))
@@ -297,7 +299,7 @@ fn pipe_from<
     let mut file = open_ledger(host, &ledger_of(request.ledger, request.may_make), start)?;
     let alloc = rt.alloc();
     let status = pipe_all(
-        rt, alloc, key, &mut file, witness, reader, writer, Stream, &options, out,
+        rt, alloc, key, &mut file, witness, reader, writer, OneOutput, &options, out,
     );
     Ok((status, file))
 }

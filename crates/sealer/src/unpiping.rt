@@ -14,7 +14,8 @@ use command_line::{UnpipeRequest, UsageFault, unpipe_request};
 use container_core::{Key, MAX_OPENED};
 use ledger_core::{Sink, ToWrite};
 use sealer_core::{
-    Folder, MAX_WORKERS, OpeningFolder, Report, Stream, ToStream, UnpipeOptions, unpipe_all,
+    Folder, MAX_WORKERS, OneOutput, OpeningFolder, Report, Stream, ToStream, UnpipeOptions,
+    unpipe_all,
 };
 use std::io::{Read, Write};
 use std::rt::{Clock, Env, Files};
@@ -137,10 +138,11 @@ fn unpipe_out<R: AllocGlobal + Clock + Threads + Sync, F: Folder + Drop, W: Sink
         × AreTold result.0 (record { name = request.now.file.now; outcome = outcome } ∷ [])
         (E.taken lines.old) (E.taken lines.new) (E.failures lines.old) (E.failures lines.new) }
 {
-    let mut both = ToStream::of(folder, writer);
-    let status = unpipe_from(rt, key, request, &mut both, Stream, lines);
+    let mut both = ToStream::of(folder, Stream { writer });
+    let status = unpipe_from(rt, key, request, &mut both, OneOutput, lines);
     let ToStream { folder: _, stream } = both;
-    (status, stream)
+    let Stream { writer } = stream;
+    (status, writer)
 }
 
 // The options of this request.

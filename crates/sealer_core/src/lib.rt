@@ -28,7 +28,7 @@ pub use command_core::{
 };
 pub use crew_core::{MAX_DEPTH, MAX_LANES, MAX_WINDOW, MAX_WORKERS};
 pub use folder_core::{
-    Folder, FolderFault, OpeningFolder, Outputs, Place, Stream, ToStream, Whole,
+    Folder, FolderFault, OneOutput, OpeningFolder, Outputs, Place, Stream, ToStream, Whole,
 };
 pub use opening_core::{
     Plaintext, open_one, run_open, run_open_by, run_plain, run_plain_by, run_verify, run_verify_by,

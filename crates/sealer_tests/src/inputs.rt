@@ -3,10 +3,13 @@ ghost use Rattle.folder_core.specs.Changes.{IsIdle};
 
 use crate::failing::{Act, Calls};
 use crate::runs::counting_key;
+use container_core::Shape;
 use folder_core::{FileReader, Spool, Spooled};
 use io_memory::{Schedule, ToMemory};
 use ledger_core::{Failed, Sink, Source};
-use sealer_core::{Folder, FolderFault, Stream, ToStream, UnpipeOptions, unpipe_all};
+use sealer_core::{
+    Folder, FolderFault, OneOutput, Outputs, Stream, ToStream, UnpipeOptions, unpipe_all,
+};
 use std::alloc::Global;
 use std::marker::Brand;
 use std::thread::Threads;
@@ -143,10 +146,24 @@ struct OneFile<I: FileReader + Drop> {
     input: Option<I>,
 }
 
-impl<I: FileReader + Drop> Sink for OneFile<I> {
+impl<I: FileReader + Drop> Outputs for OneFile<I> {
+    type Handle = OneOutput;
+
+    fn allow_container(&mut self, _output: OneOutput, _number: u32, _shape: &Shape) {}
+
     fn write(&mut self, _bytes: &[u8]) -> Result<usize, Failed> {
         Err(Failed)
     }
+
+    fn finish(&mut self) -> Result<(), Failed> {
+        Err(Failed)
+    }
+
+    fn discard(&mut self) -> Result<(), Failed> {
+        Ok(())
+    }
+
+    ghost sound = { λ _. ∣ (tt, tt) ∣₁ };
 }
 
 impl<I: FileReader + Drop> Folder for OneFile<I> {
@@ -179,11 +196,11 @@ impl<I: FileReader + Drop> Folder for OneFile<I> {
 
     fn close(&mut self, _name: &str, _reader: I) {}
 
-    fn create(&mut self, _name: &str) -> Result<Stream, FolderFault> {
+    fn create(&mut self, _name: &str) -> Result<OneOutput, FolderFault> {
         Err(FolderFault::Failed)
     }
 
-    fn abandon(&mut self, _output: Stream) -> Result<(), Failed> {
+    fn abandon(&mut self, _output: OneOutput) -> Result<(), Failed> {
         Err(Failed)
     }
 }
@@ -255,7 +272,8 @@ pub(crate) fn run_in<R: AllocGlobal + Threads + Clock + Sync, F: Folder + Drop>(
     };
     let taken = ToMemory::new(rt.alloc(), 0, usize::MAX, how.writes).ok()?;
     let mut lines = ToMemory::new(rt.alloc(), 64, 64, how.lines).ok()?;
-    let mut both = ToStream::of(folder, Counted { taken, calls });
+    let writer = Counted { taken, calls };
+    let mut both = ToStream::of(folder, Stream { writer });
     let key = counting_key();
     let status = unpipe_all(
         rt,
@@ -263,12 +281,14 @@ pub(crate) fn run_in<R: AllocGlobal + Threads + Clock + Sync, F: Folder + Drop>(
         &key,
         &mut both,
         NAME,
-        Stream,
+        OneOutput,
         &options,
         &mut lines,
     );
     let ToStream { folder, stream } = both;
-    let Counted { taken, calls: _ } = stream;
+    let Stream {
+        writer: Counted { taken, calls: _ },
+    } = stream;
     Some((
         folder,
         Ended {

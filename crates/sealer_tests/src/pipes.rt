@@ -9,7 +9,7 @@ use container_core::{Shape, seal};
 use io_memory::{FromMemory, Schedule, ToMemory};
 use ledger_core::{Device, Failed, fill};
 use reserve_core::{Fold, LedgerFile, Unwitnessed};
-use sealer_core::{PipeOptions, SealingOutputs, Stream, pipe_all};
+use sealer_core::{OneOutput, PipeOptions, SealingOutputs, Stream, pipe_all};
 use sha2::{Digest, Sha256};
 use std::alloc::Global;
 use std::sync::Wait;
@@ -120,9 +120,11 @@ fn end_over<R: AllocGlobal + Threads + Wait + Sync, S: Fold>(
 ) -> Option<Ended> {
     let plain = vec![in rt.alloc(); 0u8; run.count].ok()?;
     let mut reader = FromMemory::new(plain.as_slice(), run.step, run.reads);
-    let mut writer = ToMemory::new(rt.alloc(), 64, run.step, run.writes).ok()?;
+    let writer = ToMemory::new(rt.alloc(), 64, run.step, run.writes).ok()?;
+    let mut stream = Stream { writer };
     let mut out = outs_of(rt.alloc(), run)?;
-    let status = status_over(rt, file, &mut reader, &mut writer, Stream, &mut out);
+    let status = status_over(rt, file, &mut reader, &mut stream, OneOutput, &mut out);
+    let Stream { writer } = stream;
     let unread = unread_of(rt.alloc(), &mut reader);
     Some(Ended {
         status,
