@@ -59,11 +59,11 @@ holds_change : (under : Option KeyedRange) (n : ℕ) (f : Output → Output) (l 
 holds_change under n f l (Created o) holds = (allowed_change under n f l o.content holds.0, holds.1)
 holds_change under n f l (Happened event) holds = tt
 
-read_more : (l : List Entry) (e : Entry) (key plain : List ℕ) → WasRead l key plain → WasRead (l ++ e ∷ []) key plain
+pub read_more : (l : List Entry) (e : Entry) (key plain : List ℕ) → WasRead l key plain → WasRead (l ++ e ∷ []) key plain
 read_more l e key plain (place, name, bytes, most, at, opens) =
     (place, name, bytes, most, get_more l e _ place at, opens)
 
-again_more : (l : List Entry) (e : Entry) (key header last : List ℕ) → WasReadAgain l key header last
+pub again_more : (l : List Entry) (e : Entry) (key header last : List ℕ) → WasReadAgain l key header last
     → WasReadAgain (l ++ e ∷ []) key header last
 again_more l e key header last (place, name, first, plain, most, at, behind, opens, has, long) =
     (place, name, first, plain, most, get_more l e _ place at, get_more l e _ (suc place) behind, opens, has, long)

@@ -2,8 +2,8 @@
 use Rattle.std.proofs.Common.{◌≡◌, ◌∙◌, ℕ, List, Option, None, Some, IfSome, sym, ap, inl, inr}
 use Rattle.std.specs.Prelude.{slice_get}
 use Rattle.journal_core.specs.Range.{Numbers}
-use Rattle.folder_core.specs.Record.{Content, Created, Entry, Event, Happened, RunRecord}
-use Rattle.folder_core.specs.Changes.{Becomes, HasStreamAlone, IsFresh, IsIdle, IsKept, IsNewStream, Tells, TellsBytes, allowed, new_output, set_content, started, with_entry}
+use Rattle.folder_core.specs.Record.{Content, Created, Entry, RunRecord}
+use Rattle.folder_core.specs.Changes.{Becomes, HasStreamAlone, IsFresh, IsIdle, IsKept, IsNewStream, allowed, new_output, set_content, started, with_entry}
 use Rattle.folder_core.proofs.Entries.{change_get, get_more}
 
 -- ---- nothing is in hand
@@ -11,26 +11,6 @@ use Rattle.folder_core.proofs.Entries.{change_get, get_more}
 pub alone : (rest : Option RunRecord) → IsIdle rest → IfSome rest HasStreamAlone
 alone None idle = tt
 alone (Some r) idle = inl idle
-
-pub still_idle : (e : Entry) (before after : Option RunRecord) → IsIdle before → Becomes (with_entry e) before after
-    → IsIdle after
-still_idle e before None idle came = tt
-still_idle e None (Some r) idle (was, known, is) = absurd (cc)
-still_idle e (Some b) (Some r) idle (was, known, is) =
-    let same : was ≡ b = cc in
-    ap (λ (x : RunRecord). x.in_hand) is ∙ ap (λ (x : RunRecord). x.in_hand) same ∙ idle
-
-pub still_idle_bytes : (event : List ℕ → Event) (left : Option (List ℕ)) (before after : Option RunRecord)
-    → IsIdle before → TellsBytes event left before after → IsIdle after
-still_idle_bytes event left before None idle came = tt
-still_idle_bytes event left before (Some r) idle (bytes, known, came) =
-    still_idle (Happened (event bytes)) before (Some r) idle came
-
-pub still_idle_tells : (event : ℕ → Event) (failures : Option ℕ) (before after : Option RunRecord)
-    → IsIdle before → Tells event failures before after → IsIdle after
-still_idle_tells event failures before None idle came = tt
-still_idle_tells event failures before (Some r) idle (n, known, came) =
-    still_idle (Happened (event n)) before (Some r) idle came
 
 -- ---- a new stream
 
