@@ -1,5 +1,5 @@
 -- One output that is created, filled and closed: what it may hold before each call, and what is known at the end.
-use Rattle.std.proofs.Common.{◌≡◌, inl, inr, ℕ, suc, Bool, true, false, List, [], ◌∷◌, ◌++◌, length, Option, None, Some, refl, sym, ap, ap₂, ◌∙◌, subst, append-nil}
+use Rattle.std.proofs.Common.{◌≡◌, inl, inr, ℕ, Bool, true, false, List, [], ◌∷◌, ◌++◌, length, Option, None, Some, refl, sym, ap, ap₂, ◌∙◌, subst, append-nil}
 use Rattle.std.specs.Prelude.{⊤, ◌⊎◌, IfSome, Result, Ok, Err, slice_get, option_map, if◌then◌else◌}
 use Rattle.container_core.specs.Opening.{opening}
 use Rattle.io_core.specs.Streams.{Appends, AppendsFront, IsFront, Keeps, counted}
@@ -12,11 +12,12 @@ use Rattle.opening_core.specs.Engine.{HasHeader}
 use Rattle.opening_core.specs.Twice.{MayWrite, WritesAll, WritesSome, broken_by_read, broken_by_write}
 use Rattle.opening_core.specs.Windows.{HasSent}
 use Rattle.output_core.specs.Bounds.{Admits, Allows}
-use Rattle.folder_core.specs.Record.{Checked, Content, Created, Entry, Finished, GivenUp, IsAllowed, Plain, RunRecord, State, WasRead, WasReadAgain, bound_in, bound_of, content_at}
+use Rattle.folder_core.specs.Record.{Checked, Content, Created, Entry, Finished, GivenUp, IsAllowed, Plain, RunRecord, State, WasRead, bound_in, bound_of, content_at}
 use Rattle.folder_core.specs.Changes.{Becomes, Closes, IsFresh, IsIdle, IsNumberFree, MayHold, allowed, new_output, set_content, with_entry}
 use Rattle.folder_core.specs.Growth.{Grows, PutsOut}
-use Rattle.folder_core.proofs.Entries.{change_get, get_end, get_more}
+use Rattle.folder_core.proofs.Entries.{change_get, get_end}
 use Rattle.folder_core.proofs.Growth.{puts_out}
+use Rattle.folder_core.proofs.Sound.{again_more, read_more}
 use Rattle.folder_core.specs.declared.fault.FolderFault.{FolderFault}
 use Rattle.folder_core.specs.declared.fault.FolderFault.TheVariants as folder_fault
 use Rattle.command_core.specs.declared.line.FileFault.{FileFault}
@@ -28,15 +29,6 @@ use Rattle.command_core.specs.Putting.{IsAgainIn, closed_output, fault_of_fill, 
 use Rattle.command_core.specs.Work.{IsOfOpening, IsOfVerifying, file_read_failed, reading_failed, write_failed}
 
 -- ---- before it is taken in hand
-
-read_more : (l : List Entry) (e : Entry) (key plain : List ℕ) → WasRead l key plain → WasRead (l ++ e ∷ []) key plain
-read_more l e key plain (place, name, bytes, most, at, opens) =
-    (place, name, bytes, most, get_more l e _ place at, opens)
-
-again_more : (l : List Entry) (e : Entry) (key header last : List ℕ) → WasReadAgain l key header last
-    → WasReadAgain (l ++ e ∷ []) key header last
-again_more l e key header last (place, name, first, plain, most, at, behind, opens, has, long) =
-    (place, name, first, plain, most, get_more l e _ place at, get_more l e _ (suc place) behind, opens, has, long)
 
 may_new : (place : ℕ) (name : List ℕ) (content : Content) (was : RunRecord) → was.in_hand ≡ None → place ≡ length was.entries
     → IsAllowed was.under (was.entries ++ Created (new_output name) ∷ []) content

@@ -3,7 +3,7 @@
 //!
 //! An engine knows nothing of the record. So the functions that end in `named` name what stays the same while it writes,
 //! or the plaintext that an output may hold.
-ghost use Rattle.std.specs.Prelude.{◌≡◌, ℕ, List, Some, IfSome, OnErr, OnOk, false, is_err, option_map};
+ghost use Rattle.std.specs.Prelude.{◌≡◌, ◌≤◌, ℕ, List, Some, IfSome, OnErr, OnOk, false, is_err, option_map};
 ghost use Rattle.io_core.specs.Streams.{Appends, AppendsFront, counted};
 ghost use Rattle.io_core.specs.Views.{io_view};
 ghost use Rattle.opening_core.specs.Twice.{HasWrittenAgain, MayWrite};
@@ -14,7 +14,7 @@ ghost use Rattle.folder_core.specs.Changes.{Becomes, IsFresh, IsIdle, MayHold, a
 ghost use Rattle.folder_core.specs.Growth.{Grows};
 ghost use Rattle.command_core.specs.Putting.{IsAgainIn, PutsAgain, PutsPlain, fault_of_fill, stopped_reading};
 
-use crate::commands::fault_again;
+use crate::commands::{MAX_OPENED_BYTES, fault_again};
 use crate::context::FilesContext;
 use crate::line::FileFault;
 use claim_core::Free;
@@ -24,6 +24,7 @@ use folder_core::{
 };
 use io_core::Failed;
 use opening_core::{Plaintext, Stopped, Workers, write_again};
+use std::alloc::Global;
 use std::marker::Brand;
 use std::thread::Threads;
 use std::time::Clock;
@@ -140,63 +141,57 @@ pub(crate) fn put_plain<F: OpeningFolder>(
 // Writes by `write_again`. The record and the folder are those that are named.
 fn again_named<'f, 'b, 'a, N: Rest, T: Threads + Clock + Sync, F: OpeningFolder>(
     rt: &T,
-    context: &FilesContext<'_, 'a>,
+    alloc: Global,
+    key: &'a Key,
     folder: &'f mut F,
     header: &Header,
     reader: &mut F::Reader,
+    most: u64,
     workers: Workers<'b, 'a>,
 ) -> (Result<u64, Stopped>, &'f mut F)
     requires workers { AreWorkers workers }
+    requires most { most ≤ MAX_OPENED_BYTES }
     requires rest { F.rest folder.old ≡ N.rest }
     requires reference { folder.ghost_name ≡ N.folder }
-    requires may { IfSome (option_map bound_in N.rest) (MayWrite context.now.key.now header.now
-        context.now.options.now.max_bytes (F.Reader.left reader.old) (F.taken folder.old)) }
+    requires may { IfSome (option_map bound_in N.rest) (MayWrite key.now header.now most
+        (F.Reader.left reader.old) (F.taken folder.old)) }
     ensures rest { F.rest result.1.now ≡ N.rest }
     ensures reference { result.1.ghost_name ≡ folder.entry.ghost_name }
-    ensures written { HasWrittenAgain context.now.key.now header.now context.now.options.now.max_bytes
+    ensures written { HasWrittenAgain key.now header.now most
         (io_view (F.Reader.left reader.old) (F.Reader.failures reader.old) (F.taken folder.old) (F.failures folder.old))
         (io_view (F.Reader.left reader.new) (F.Reader.failures reader.new) (F.taken result.1.now)
         (F.failures result.1.now)) result.0 }
 {
-    let FilesContext {
-        alloc,
-        key,
-        options,
-    } = *context;
     let output = taken_in_hand::<F, N>(folder);
-    let (done, output) = write_again(
-        rt,
-        alloc,
-        key,
-        header,
-        reader,
-        output,
-        options.max_bytes,
-        workers,
-        &Free,
-    );
+    let (done, output) = write_again(rt, alloc, key, header, reader, output, most, workers, &Free);
     (done, lent_of(output))
 }
 
-/// Writes the plaintext of a container with this header, which is read once more, to the output in hand.
+/// Writes the plaintext of a container with this header, which is read once more, to the output in hand: `most` bytes at
+/// most.
 pub(crate) fn fill_again<'b, 'a, T: Threads + Clock + Sync, F: OpeningFolder>(
     rt: &T,
-    context: &FilesContext<'_, 'a>,
+    alloc: Global,
+    key: &'a Key,
     folder: &mut F,
     header: &Header,
     reader: &mut F::Reader,
+    most: u64,
     workers: Workers<'b, 'a>,
 ) -> Result<u64, Stopped>
     requires workers { AreWorkers workers }
-    requires may { IfSome (option_map bound_in (F.rest folder.old)) (MayWrite context.now.key.now header.now
-        context.now.options.now.max_bytes (F.Reader.left reader.old) (F.taken folder.old)) }
+    requires most { most ≤ MAX_OPENED_BYTES }
+    requires may { IfSome (option_map bound_in (F.rest folder.old)) (MayWrite key.now header.now most
+        (F.Reader.left reader.old) (F.taken folder.old)) }
     ensures rest { F.rest folder.new ≡ F.rest folder.old }
-    ensures written { HasWrittenAgain context.now.key.now header.now context.now.options.now.max_bytes
+    ensures written { HasWrittenAgain key.now header.now most
         (io_view (F.Reader.left reader.old) (F.Reader.failures reader.old) (F.taken folder.old) (F.failures folder.old))
         (io_view (F.Reader.left reader.new) (F.Reader.failures reader.new) (F.taken folder.new) (F.failures folder.new))
         result }
 {
-    let (done, _) = again_named::<Brand, T, F>(rt, context, folder, header, reader, workers);
+    let (done, _) = again_named::<Brand, T, F>(
+        rt, alloc, key, folder, header, reader, most, workers,
+    );
     done
 }
 
@@ -225,8 +220,22 @@ pub(crate) fn put_again<'b, 'a, T: Threads + Clock + Sync, F: OpeningFolder>(
         Ok(handle) => handle,
         Err(fault) => return Err(FillFault::Uncreated(fault)),
     };
-    folder.allow_checked(handle, context.key, header, reader);
-    match fill_again(rt, context, folder, header, reader, workers) {
+    let FilesContext {
+        alloc,
+        key,
+        options,
+    } = *context;
+    folder.allow_checked(handle, key, header, reader);
+    match fill_again(
+        rt,
+        alloc,
+        key,
+        folder,
+        header,
+        reader,
+        options.max_bytes,
+        workers,
+    ) {
         Ok(n) => match finish_or_discard(folder) {
             Ok(()) => Ok(n),
             Err(Failed) => Err(FillFault::Unfilled(Stopped::Broken(OpenFault::Write))),

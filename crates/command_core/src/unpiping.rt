@@ -6,10 +6,10 @@ ghost use Rattle.folder_core.specs.Record.{Read, RunRecord};
 ghost use Rattle.folder_core.specs.Changes.{HasStreamAlone, IsFresh, IsNewStream, TellsBytes};
 ghost use Rattle.command_core.specs.Files.{IsOpenFile};
 ghost use Rattle.command_core.specs.Unpiping.{HasUnpiped, HasUnpipedRead, outputs_view};
-ghost use Rattle.command_core.specs.Work.{AreInRange, AreTold, asked_label, reading_failed};
+ghost use Rattle.command_core.specs.Work.{AreTold, reading_failed};
 
-use crate::commands::{MAX_OPENED_BYTES, OpenOptions, fault_again, tell};
-use crate::context::FilesContext;
+use crate::commands::{MAX_OPENED_BYTES, fault_again, tell};
+use crate::context::UnpipeContext;
 use crate::line::{FileFault, FileOutcome};
 use crate::putting::fill_again;
 use crate::reading::{check_labelled, room_to_start, workers_for, workers_from};
@@ -39,7 +39,7 @@ pub struct UnpipeOptions<'a> {
 // by reading the file again.
 fn unpipe_read<'b, 'a, T: Threads + Clock + Sync, F: OpeningFolder>(
     rt: &T,
-    context: &FilesContext<'_, 'a>,
+    context: &UnpipeContext<'_, 'a>,
     folder: &mut F,
     reader: &mut F::Reader,
     name: &str,
@@ -53,13 +53,14 @@ fn unpipe_read<'b, 'a, T: Threads + Clock + Sync, F: OpeningFolder>(
     ensures alone { IfSome (F.rest folder.new) HasStreamAlone }
     ensures run { (before : Option RunRecord)
         → TellsBytes (Read name.now) (F.Reader.left reader.old) before (F.rest folder.old)
-        → HasUnpipedRead context.now.key.now context.now.options.now.max_bytes (asked_label context.now.options.now)
+        → HasUnpipedRead context.now.key.now context.now.options.now.max_bytes
+        (option_map (λ b. b.now) context.now.options.now.label)
         name.now (F.Handle.at output) (outputs_view before (F.taken folder.old) (F.failures folder.old))
         (outputs_view (F.rest folder.new) (F.taken folder.new) (F.failures folder.new)) result }
     ensures read { IfSome (F.rest folder.new) (λ _. F.Reader.failures reader.new
         ≡ counted (reading_failed result) (F.Reader.failures reader.old)) }
 {
-    let FilesContext {
+    let UnpipeContext {
         alloc,
         key,
         options,
@@ -74,7 +75,7 @@ fn unpipe_read<'b, 'a, T: Threads + Clock + Sync, F: OpeningFolder>(
         Err(Failed) => return FileOutcome::Failed(FileFault::SpoolFailed),
     }
     folder.allow_checked(output, key, &header, reader);
-    match fill_again(rt, context, folder, &header, reader, workers) {
+    match fill_again(rt, alloc, key, folder, &header, reader, most, workers) {
         Ok(n) => FileOutcome::Opened(n),
         Err(stopped) => FileOutcome::Failed(fault_again(stopped)),
     }
@@ -84,7 +85,7 @@ fn unpipe_read<'b, 'a, T: Threads + Clock + Sync, F: OpeningFolder>(
 // Where the file's length isn't known each reading starts its own, as nothing may come of it for long.
 fn unpipe_beside<'a, T: Threads + Clock + Sync, F: OpeningFolder>(
     rt: &T,
-    context: &FilesContext<'_, 'a>,
+    context: &UnpipeContext<'_, 'a>,
     folder: &mut F,
     reader: &mut F::Reader,
     name: &str,
@@ -96,7 +97,8 @@ fn unpipe_beside<'a, T: Threads + Clock + Sync, F: OpeningFolder>(
     ensures alone { IfSome (F.rest folder.new) HasStreamAlone }
     ensures run { (before : Option RunRecord)
         → TellsBytes (Read name.now) (F.Reader.left reader.old) before (F.rest folder.old)
-        → HasUnpipedRead context.now.key.now context.now.options.now.max_bytes (asked_label context.now.options.now)
+        → HasUnpipedRead context.now.key.now context.now.options.now.max_bytes
+        (option_map (λ b. b.now) context.now.options.now.label)
         name.now (F.Handle.at output) (outputs_view before (F.taken folder.old) (F.failures folder.old))
         (outputs_view (F.rest folder.new) (F.taken folder.new) (F.failures folder.new)) result }
     ensures read { IfSome (F.rest folder.new) (λ _. F.Reader.failures reader.new
@@ -127,7 +129,7 @@ fn unpipe_beside<'a, T: Threads + Clock + Sync, F: OpeningFolder>(
         ensures run { (output : F.Handle) (before : Option RunRecord) → kept.entry ≡ Some output
             → TellsBytes (Read name.entry.now) (F.Reader.left reader.entry.now) before (F.rest folder.entry.now)
             → HasUnpipedRead context.entry.now.key.now context.entry.now.options.now.max_bytes
-            (asked_label context.entry.now.options.now) name.entry.now (F.Handle.at output)
+            (option_map (λ b. b.now) context.entry.now.options.now.label) name.entry.now (F.Handle.at output)
             (outputs_view before (F.taken folder.entry.now) (F.failures folder.entry.now))
             (outputs_view (F.rest folder.exit.now) (F.taken folder.exit.now) (F.failures folder.exit.now)) result }
         ensures read { IfSome (F.rest folder.exit.now) (λ _. F.Reader.failures reader.exit.now
@@ -148,22 +150,23 @@ fn unpipe<T: Threads + Clock + Sync, F: OpeningFolder>(
     rt: &T,
     alloc: Global,
     key: &Key,
-    options: &OpenOptions,
+    options: &UnpipeOptions,
     folder: &mut F,
     name: &str,
     output: F::Handle,
 ) -> FileOutcome
-    requires range { AreInRange options.now }
+    requires workers { (0 < options.now.workers) × (options.now.workers ≤ MAX_WORKERS) }
+    requires max_bytes { options.now.max_bytes ≤ MAX_OPENED_BYTES }
     requires new { IfSome (F.rest folder.old) (IsNewStream (F.Handle.at output)) }
     requires fresh { IsFresh (F.rest folder.old) (F.taken folder.old) (F.failures folder.old) }
-    ensures { HasUnpiped key.now options.now.max_bytes (asked_label options.now) name.now (F.Handle.at output)
-        (outputs_view (F.rest folder.old) (F.taken folder.old) (F.failures folder.old))
+    ensures { HasUnpiped key.now options.now.max_bytes (option_map (λ b. b.now) options.now.label) name.now
+        (F.Handle.at output) (outputs_view (F.rest folder.old) (F.taken folder.old) (F.failures folder.old))
         (outputs_view (F.rest folder.new) (F.taken folder.new) (F.failures folder.new)) result }
 {
     let Ok(mut reader) = folder.open(name) else {
         return FileOutcome::Failed(FileFault::CannotOpen);
     };
-    let context = FilesContext {
+    let context = UnpipeContext {
         alloc,
         key,
         options,
@@ -174,22 +177,22 @@ fn unpipe<T: Threads + Clock + Sync, F: OpeningFolder>(
 }
 
 /// Opens the container in a file of a folder, to its end, and writes the plaintext to a stream of that folder, which is
-/// new (`ToStream` makes such a folder of any folder and any writer). The file is read twice. The first reading checks
+/// new (`ToStream` makes such a folder of any folder and a `Stream`). The file is read twice. The first reading checks
 /// every chunk and the label. Only then the second writes, each chunk once it was checked again. The line, `opened NAME
 /// bytes N` or `failed NAME: FAULT`, is printed to `lines`. Returns the exit status: 0 if the file was opened, 1 if that
 /// failed, 2 if the line couldn't be written.
 ///
 /// At a fault of the bytes nothing was written. If memory, a read or a write failed after the whole check, or if the
 /// second reading gave other bytes (`changed while it was opened`), what was written had passed the check again. The
-/// stream stays in hand.
-pub fn unpipe_all<'o, T: Threads + Clock + Sync, F: OpeningFolder, E: Report>(
+/// stream stays in hand. Where nothing is read again `output` is unused: in the record it stays new and open.
+pub fn unpipe_all<T: Threads + Clock + Sync, F: OpeningFolder, E: Report>(
     rt: &T,
     alloc: Global,
     key: &Key,
     folder: &mut F,
     name: &str,
     output: F::Handle,
-    options: &UnpipeOptions<'o>,
+    options: &UnpipeOptions,
     lines: &mut E,
 ) -> u8
     requires workers { (0 < options.now.workers) × (options.now.workers ≤ MAX_WORKERS) }
@@ -205,15 +208,6 @@ pub fn unpipe_all<'o, T: Threads + Clock + Sync, F: OpeningFolder, E: Report>(
         × AreTold result (record { name = name.now; outcome = outcome } ∷ [])
         (E.taken lines.old) (E.taken lines.new) (E.failures lines.old) (E.failures lines.new) }
 {
-    // The name is passed apart.
-    let options: OpenOptions<'o> = OpenOptions {
-        files: &[],
-        workers: options.workers,
-        max_bytes: options.max_bytes,
-        label: options.label,
-        to: None,
-        show: false,
-    };
-    let outcome = unpipe(rt, alloc, key, &options, folder, name, output);
+    let outcome = unpipe(rt, alloc, key, options, folder, name, output);
     tell(alloc, lines, 0, name, outcome)
 }
