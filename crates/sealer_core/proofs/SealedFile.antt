@@ -1,5 +1,5 @@
 -- A file that is read, sealed and closed: what comes for it.
-use Rattle.std.proofs.Common.{◌≡◌, ◌∙◌, ℕ, Bool, List, [], ◌∷◌, ◌++◌, Option, None, Some, refl, sym, ap, ap₂, subst, append-nil}
+use Rattle.std.proofs.Common.{◌≡◌, ◌∙◌, ℕ, List, [], ◌∷◌, ◌++◌, Option, None, Some, refl, sym, ap, ap₂, subst, append-nil}
 use Rattle.std.specs.Prelude.{IfSome}
 use Rattle.io_core.specs.Streams.{counted}
 use Rattle.folder_core.specs.Record.{Closed, Entry, Happened, Read, RunRecord, Unread}
@@ -10,8 +10,7 @@ use Rattle.command_core.specs.declared.line.FileFault.TheVariants as line
 use Rattle.command_core.specs.declared.line.FileOutcome.{FileOutcome}
 use Rattle.command_core.specs.declared.line.FileOutcome.TheVariants.{Failed}
 use Rattle.command_core.specs.Putting.{once_if}
-use Rattle.command_core.proofs.Files.{Reads, told_grows}
-use Rattle.command_core.proofs.Puts.{count_is}
+use Rattle.command_core.proofs.Files.{Reads, closes, nothing_closed, told_grows}
 use Rattle.sealer_core.specs.Group.{PutsLeft}
 use Rattle.sealer_core.specs.Sealing.{AddsSealed, PutsSealed, SealedUnder, given_up_in, is_unread, sealed_name}
 
@@ -38,16 +37,6 @@ unread_added u name before after came =
     grows_by (AddsVoid u name (Failed line.CannotOpen) []) (Happened (Unread name)) (refl, refl) before after came
 
 -- ---- it is read
-
-closes : (name : List ℕ) (failed : Bool) (failures : Option ℕ) (before after : Option RunRecord) → failures ≡ counted failed (Some 0)
-    → Tells (Closed name) failures before after → Grows (λ new. new ≡ Happened (Closed name (once_if failed)) ∷ []) before after
-closes name failed failures before None count tells = tt
-closes name failed failures before (Some r) count (n, many, came) =
-    grows_by (λ new. new ≡ Happened (Closed name (once_if failed)) ∷ []) (Happened (Closed name n))
-    (ap (λ m. Happened (Closed name m) ∷ []) (count_is failed (Some 0) failures n refl many count)) before (Some r) came
-
-nothing_closed : (name : List ℕ) (failures : Option ℕ) (after : RunRecord) → Tells (Closed name) failures None (Some after) → ⊥
-nothing_closed name failures after (n, many, (was, known, is)) = cc
 
 -- it was read, and this came for its output
 abbrev Puts : SealedUnder → List ℕ → FileOutcome → List ℕ → List Entry → Type 0

@@ -31,6 +31,7 @@ use Rattle.command_core.specs.declared.line.FileFault.TheVariants.{Unsealed}
 use Rattle.command_core.specs.declared.line.FileOutcome.{FileOutcome}
 use Rattle.command_core.specs.declared.line.FileOutcome.TheVariants.{Failed, Sealed}
 use Rattle.command_core.specs.Putting.{closed_output}
+use Rattle.command_core.proofs.Files.{known_at}
 use Rattle.command_core.proofs.Puts.{all_front, count_is, put_closed}
 use Rattle.sealer_core.specs.Group.{ClosesBy, EndsBy, IsEnding, IsKeyed, IsKnownLeft, IsLonger, PutsLeft, filled, uncreated_as, void_at}
 use Rattle.sealer_core.specs.Sealing.{IsWhyGivenUp, PutsSealed, SealedUnder, container_by, operations_of, unissued_as}
@@ -38,9 +39,6 @@ use Rattle.sealer_core.proofs.FileEnds.{change_after}
 use Rattle.sealer_core.proofs.Keyed.{admits_container, idle_keyed, inside_range, keyed_after, keyed_filled, keyed_more, may_hold}
 use Rattle.sealer_core.proofs.Owing.{issue_settles, one_unsettled, some_one}
 use Rattle.sealer_core.proofs.Waits.{held_is}
-
-known_at : (P : List ℕ → Type 0) (left : Option (List ℕ)) (input : List ℕ) → left ≡ Some input → IfSome left P → P input
-known_at P left input is p = subst (λ o. IfSome o P) is p
 
 -- ---- before it is in hand
 

@@ -193,13 +193,14 @@ fn pipe_alone<T: Threads + Wait + Sync, R: Source, W: Outputs>(
 }
 
 /// Seals what a reader gives, to its end and as it comes, and writes its container to a stream, in the options' shape
-/// and under its own number. A writer (`Sink`) is a stream: its output is `Stream`. The line, `sealed - file NUMBER
-/// bytes N` or `failed -: FAULT`, goes to `out.faults`, since standard output is for the container.
+/// and under its own number. `Stream` is any writer (`Sink`) as a stream: its output is `OneOutput`. The line, `sealed -
+/// file NUMBER bytes N` or `failed -: FAULT`, goes to `out.faults`, since standard output is for the container.
 ///
 /// Returns the exit status: 0 if the stream was sealed, 1 if that failed, 2 if no range was reserved, the ledger file
 /// wasn't folded, the witness didn't record the range or no ledger opened (then nothing was read or written), if the line
 /// couldn't be written, or if the journal couldn't be written whole. Each of these but the line has a text on standard
-/// error. The stream stays in hand: it has no end of its own. Where nothing is written its output stays as it was.
+/// error. The stream stays in hand: it has no end of its own. Where no number was granted for it, `output` is unused: in the
+/// record it stays new and open.
 ///
 /// After a fault, what was written is a prefix of the stream's container: check the status, or open it. One range of
 /// one number is reserved, for good, and is in the ledger file itself before the stream is read. Nobody else may write
