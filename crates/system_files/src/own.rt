@@ -243,7 +243,9 @@ pub struct StandardInput<'r, 'p, R: Files + AllocGlobal, I: Read + Drop> {
 
 impl<'r, 'p, R: Files + AllocGlobal, I: Read + Drop> StandardInput<'r, 'p, R, I> {
     /// This input, of a run with these files of its own.
-    pub fn new(rt: &'r R, input: I, paths: OwnPaths<'p>) -> StandardInput<'r, 'p, R, I> {
+    pub fn new(rt: &'r R, input: I, paths: OwnPaths<'p>) -> StandardInput<'r, 'p, R, I>
+        ensures input { ⟦<StandardInput<'r, 'p, R, I> as Read>⟧.remaining result ≡ I.remaining input }
+    {
         StandardInput {
             rt,
             input,
