@@ -19,14 +19,14 @@ abbrev pub IsFinishedIn : List Entry → List ℕ → List ℕ → Type 0
 IsFinishedIn entries name bytes = (before : List Entry) × (content : Content) × (failures : ℕ) × (after : List Entry)
     × (entries ≡ before ++ closed_output name content bytes failures Finished ∷ after)
 
--- It was created right after this entry, and no write to it failed.
+-- It was created right after this entry, and finished, and no write to it failed.
 abbrev pub IsFinishedAfter : Entry → List Entry → List ℕ → List ℕ → Type 0
 IsFinishedAfter entry entries name bytes = (before : List Entry) × (content : Content) × (after : List Entry)
     × (entries ≡ before ++ entry ∷ closed_output name content bytes 0 Finished ∷ after)
 
 -- ---- sealed
 
--- A run of `seal_all` that ended added these entries to the record (its clause `run`). Every `Shape` is one.
+-- A run of `seal_all` that ended added these entries to the record (its clause `run`). `IsShape` is of each `Shape`.
 abbrev pub HasSealedFiles : SealedUnder → List Entry → Type 0
 HasSealedFiles under entries = IsShape under.shape × (names : List (List ℕ)) × (terms : Terms)
     × (history : List operation.Entry) × (status : ℕ) × (old : Printed) × (new : Printed) × (before : RunRecord)

@@ -1,18 +1,17 @@
 -- No nonce is used twice: any runs under one key, and the chunks that their outputs held.
---
--- A run is a call of `seal_all` or `pipe_all` at a moment: after it ended, or when it was killed, also within a write. What
--- is known of it is the same in all cases: the record of its outputs, with the bytes that each held. A call that reserved
--- no numbers of the key and device, or that ended or was killed before it gave its record the key, wrote nothing under
--- them: it is one of those between two runs.
---
+-- A run is a call of `seal_all` or `pipe_all` at one moment: after it ended, or when it was killed, also within a write.
+-- What is known of it is the same in all cases: the record of its outputs, with what each held by then (`whole`). It is
+-- sound: each output holds a prefix of what it may, and no two have one number. A call that reserved no numbers of the key
+-- and device, or ended or was killed before its record had the key, wrote nothing under them: it is between two runs.
 -- Assumed is:
--- - The record is known (`rest` and `taken` are `Some`); or, of a `pipe_all` that ended, what its reader and writer report
---   (`left` and `taken`). The program's own tell nothing of real files, and can't; but a call can't know which it has.
+-- - The record is known (`rest` and `taken` are `Some`), and true; or, of a `pipe_all` that ended, what its reader and
+--   writer report. The program's own tell nothing of real files; but a call can't know which it has, and does the same.
 -- - A run's keeper was made of the ledger's files that it found. (`IsFound`.)
 -- - Nobody else writes these files, rolls them back or uses a copy. What happens between two runs passes on the ranges
---   that were found. (`PassesOn`: what the files held they still hold.)
+--   that were found. (`PassesOn`: what the files held they still hold. Laws of `reserve_core` show it of most calls.)
 -- - A disk returns what was written to it, and keeps what was synced. (`AreClean`, `outcomes`.)
 -- - No two ledger files share key and device. (All runs of a device are in one list.)
+-- - A chunk's number has 32 bits. (`HasChunk`. The limits of calls allow no more chunks.)
 -- - Of killed runs: the ledger file shown to `start` is the call's own. A write that was cut off left a front of its bytes.
 use Rattle.std.specs.Prelude.{◌≡◌, ◌⊎◌, ℕ, suc, ◌+◌, ◌*◌, ◌^◌, ◌<◌, ◌≤◌, List, [], ◌∷◌, length, slice_get, None, Some}
 use Rattle.sha2.specs.Sha256.{sha256}
@@ -38,7 +37,7 @@ use Rattle.sealer_core.specs.Sealing.{FoldsFiles, range_asked}
 
 -- ---- a run
 
--- A run, over any disk: the ledger's two files as found, and as left after it, perhaps by a crash; and its outputs' record.
+-- A run, over any disk: the ledger's files as found, and as its fold left them, perhaps over a crash; its outputs' record.
 pub record Run : Type 0 where
   pub start : Image
   pub files : Image
@@ -56,12 +55,12 @@ pub record IsRun (key : List ℕ) (device : ℕ) (run : Run) : Type 0 where
   pub lawful : IsLawfulRange range
   pub of_device : range.device ≡ device
   pub sound : ∥ IsSound run.written ∥₁
-  -- the range is after all that the files held before it
+  -- the range is after all of the key's and device's that the files held before it
   pub behind : (lists : Lists) → AreIn lists run.start → next_of (lists (sha256 key) device) ≤ range.lo
   -- and after it they hold lists over which the next range begins no earlier than this one ends
   pub stands : (lists : Lists) × AreIn lists run.files × (range.lo + range.size ≤ next_of (lists (sha256 key) device))
 
--- Any runs under the key: those of each device in order, on its ledger file. Each finds what the one before it left.
+-- Any runs under the key: those of each device in order, on its ledger file. What one left there is still held at the next.
 pub record AreRunsOf (key : List ℕ) (runs : ℕ → List Run) : Type 0 where
   pub each : (device i : ℕ) (run : Run) → slice_get (runs device) i ≡ Some run → IsRun key device run
   pub in_turn : (device i : ℕ) (one other : Run) → slice_get (runs device) i ≡ Some one
@@ -110,7 +109,8 @@ pub record IsOutputAt (runs : ℕ → List Run) (place : Place) : Type 0 where
   pub shape : ShapeView
   pub content : output.content ≡ Container number shape
 
--- The bytes begin some container under the key, and have some of this chunk, whose number has 32 bits; this is its nonce.
+-- The bytes begin some container under the key, and have some of this chunk, whose number has 32 bits. It may have been
+-- sealed under this nonce: a chunk that is cut may be the last one, or not. Of the key a header has the hint alone.
 pub record HasChunk (key bytes : List ℕ) (chunk : ℕ) (nonce : List ℕ) : Type 0 where
   pub shape : ShapeView
   pub prefix : List ℕ

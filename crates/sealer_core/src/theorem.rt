@@ -35,14 +35,15 @@ use sqlite::Files;
 use sqlite_disk::Disk;
 
 /// No nonce is used twice. Take any number of runs of `seal_all` and `pipe_all` under one key, as any devices, each
-/// ended or killed, over any disks. Each found the ledger file of its device as those before it left it, over any crashes
-/// between. `a_call_is_a_run` shows that a call is such a run.
+/// ended or killed, over any disks. Each finds in the ledger file of its device all ranges that those before it left there
+/// (`PassesOn`, also over crashes). `a_call_is_a_run` shows that a call whose record is known is such a run.
 ///
-/// `sealed`: what each output held that may hold a container begins one under the key, under its number of its run's range.
-/// So these bytes are a header and chunks in order, the last perhaps cut, each sealed by the AEAD under the nonce at its
-/// place (`laws::containers_are_sealed_under_their_nonces`). Other outputs hold nothing, or what was opened. `each`: each
-/// chunk, with a number of 32 bits, of which they have any byte has a nonce. `once`: two chunks with one nonce, of any such
-/// outputs, are the same chunk of the same output of the same run.
+/// `sealed`: what each output held that may hold a container begins one, of some plaintext, under the key and its number of
+/// its run's range. So it begins a header and chunks in order, each sealed by the AEAD under the nonce at its place
+/// (`laws::containers_are_sealed_under_their_nonces`). Of a chunk that is cut within its ciphertext that says nothing but its
+/// length. By `IsSound` other outputs hold nothing, or begin what was opened. `each`: each chunk, with a number of 32 bits,
+/// of which they have any byte has a nonce. `once`: two chunks with one nonce, of any such outputs, are the same chunk of
+/// the same output of the same run. Nothing is said of secrecy, or of the AEAD's strength.
 pub fn no_nonce_is_used_twice()
     ensures sealed { (key : List ℕ) (runs : ℕ → List Run) (place : Place) → AreRunsOf key runs
         → (at : IsOutputAt runs place) → (range : Numbers) × (range.device ≡ place.device)
@@ -108,12 +109,12 @@ pub fn a_call_is_a_run<D: Disk + Drop, F: Outputs>()
 }
 
 /// What was opened was sealed. Take any run that ended, of `seal_all` or `pipe_all`, and any call of `open_all` or
-/// `unpipe_all` that ended, under one key. `same`: if the call opened bytes to which the run had sealed an input, what it
-/// opened is that input, byte for byte. To be opened a file may be read twice: this is about its last reading, from which
-/// the output was written, whatever an earlier one gave. There is no premise on a ledger file or a disk.
+/// `unpipe_all` that ended, under one key, whose folders, readers and writers told what they did. `same`: if the call opened
+/// bytes (of a file that is read twice, those of the last reading) to which the run had sealed an input, what it opened is
+/// that input, byte for byte. That nobody else can make bytes that open is not said, nor that sealed bytes do open.
 ///
-/// For each alone: an output that a run finished is the container of what it had read of a file (`sealed`), and one that a
-/// call finished is what the bytes of the last reading of a file open to (`opened`). That reading is right before the
+/// For each alone: an output that `seal_all` finished is the container of what it had read of a file (`sealed`), and one that
+/// `open_all` finished is what the bytes of the last reading of a file open to (`opened`). That reading is right before the
 /// output in the record.
 pub fn what_was_opened_was_sealed()
     ensures same { (under : SealedUnder) (input bytes plain : List ℕ) → WasSealed under input bytes
