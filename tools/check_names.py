@@ -4,7 +4,7 @@
 Types, free functions and definitions are compared, each with its like, and types with definitions. A name that is two things today has a line
 in tools/known_names.txt, `KIND NAME`. The gate fails where a name is two things and has no line, and where a line's name no longer is: so the
 list only gets shorter. --write writes the list as it is; review what it adds. --counts prints what a reader of the house has to carry: crates,
-lines, names that are two things, and functions and definitions of ten parameters and more.
+lines, names that are two things, and functions of ten parameters and more.
 """
 import collections
 import re

@@ -1,11 +1,12 @@
 #!/usr/bin/env python3
-"""theorem_page.py [--count]: prints the two theorems over runs on one page, with the definitions in which they are said.
+"""theorem_page.py [--count | --calls]: prints the two theorems over runs on one page, with the definitions in which they are said.
 
 The page begins with what is assumed, the comment of Theorem.antt. Then come `no_nonce_is_used_twice` and `what_was_opened_was_sealed` of
 sealer_core/src/theorem.rt, each with its definitions, from the outermost in. Left out are those of the kit, of the cipher, the container, the
 journal and the ledger file (OWN), and the clauses of the calls with what these relate (CLAUSES): that a call ended means just that its clause
-holds. The end of the page says where they are. With --count it prints how long the page is; empty lines don't count. Status 1: there are more
-than MOST lines, or a name is defined nowhere.
+holds. The end of the page says where they are, but for the nonces of a container (NONCES): those come last. With --count it prints how long the
+page is before them; empty lines don't count. With --calls it prints a second page: the law that a call is such a run. Status 1: the page has
+more than MOST lines, or a name is defined nowhere.
 """
 import collections
 import re
@@ -16,18 +17,20 @@ from pathlib import Path
 CRATES = Path(__file__).resolve().parent.parent / "crates"
 SOURCE = CRATES / "sealer_core/src/theorem.rt"
 THEOREMS = ("no_nonce_is_used_twice", "what_was_opened_was_sealed")
+CALLS = ("a_call_is_a_run",)
 ASSUMED = CRATES / "sealer_core/specs/Theorem.antt"
 OWN = ("aead_core", "container_core", "journal_core", "ledger_core", "ranges_core", "reserve_core")
 CLAUSES = {
     "command_core": ("AddsOpened", "HaveAdded", "IsOfOpening", "Printed", "Unpipes"),
     "sealer_core": ("HasSealed", "HasSealedStream", "PipeView"),
 }
+NONCES = ("container_core.specs.Nonces", ("container_nonces", "stream_nonces"))
 # What is written in the language itself, as far as a reader needs it.
 PRELUDE = "std.specs.Prelude"
 MOST = 300
 WIDE = 125
 ITEM = re.compile(r"(?:(?:abbrev|unfoldable|opaque|pub|record|data) )*([\w']+)")
-USE = re.compile(r"^(?:ghost )?use Rattle\.([\w.]+?)(?:\.\{([^}]*)\}| as (\w+));?$", re.M)
+USE = re.compile(r"^(?:ghost |pub )?use Rattle\.([\w.]+?)(?:\.\{([^}]*)\}| as (\w+));?$", re.M)
 WORD = re.compile(r"[A-Za-z_][\w']*(?:\.[A-Za-z_][\w']*)?")
 
 
@@ -92,20 +95,25 @@ class Page:
                 continue
             other = self.module(origin)
             item = other.item(name)
+            if not item and name in other.origin:
+                # passed on
+                origin = other.origin[name]
+                other = self.module(origin)
+                item = other.item(name)
             if not item:
                 sys.exit(f"theorem_page.py: {origin} doesn't define {name}")
             if (origin, item) not in self.shown:
                 self.shown[origin, item] = other.items[item]
                 self.reach(other.items[item], other, origin)
 
-    def lines(self):
-        """The whole page. An empty line is before each definition."""
+    def lines(self, laws):
+        """The whole page of these laws. An empty line is before each definition."""
         source = SOURCE.read_text(encoding="utf-8")
         start = Module("\n".join(line for line in source.splitlines() if line.startswith("ghost use ")))
         text = ASSUMED.read_text(encoding="utf-8").splitlines()
         yield from text[: next(i for i, line in enumerate(text) if not line.startswith("--"))]
-        for theorem in THEOREMS:
-            law = re.search(rf"((?:///[^\n]*\n)*)pub fn {theorem}\b(.*?)\n\{{", source, re.S)[0].splitlines()[:-1]
+        for name in laws:
+            law = re.search(rf"((?:///[^\n]*\n)*)pub fn {name}\b(.*?)\n\{{", source, re.S)[0].splitlines()[:-1]
             yield from ["", *law]
             before = len(self.shown)
             self.reach(law, start, "")
@@ -115,15 +123,25 @@ class Page:
         elsewhere = [f"{crate} ({', '.join(sorted(names))})" for crate, names in sorted(self.elsewhere.items())]
         yield from textwrap.wrap(f"-- Elsewhere: {', '.join(elsewhere)}.", WIDE, subsequent_indent="-- ")
 
+    def nonces(self):
+        """Which nonces a container has, by the definitions of its own crate."""
+        where, names = NONCES
+        for name in names:
+            yield from ["", *self.module(where).items[name]]
+
 
 def main(words):
     """Returns the status."""
-    lines = list(Page().lines())
-    long = sum(1 for line in lines if line)
-    if words != ["--count"]:
-        print("\n".join(lines))
+    page, calls = Page(), Page()
+    lines, second = list(page.lines(THEOREMS)), list(calls.lines(CALLS))
+    if words == ["--calls"]:
+        print("\n".join(second))
         return 0
-    print(f"the theorems and their definitions: {long} lines")
+    if words != ["--count"]:
+        print("\n".join([*lines, *page.nonces()]))
+        return 0
+    long, longer = (sum(1 for line in each if line) for each in (lines, second))
+    print(f"the theorems and their definitions: {long} lines; that a call is a run: {longer}")
     return int(long > MOST)
 
 
