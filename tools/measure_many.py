@@ -30,8 +30,8 @@ SMALL, MANY = 4, 10_000
 ONCE = 64
 # How many bytes are read and written at a time where only that is timed.
 PIECE = 1 << 16
-# In KiB: the least file for which a lane is started, and the bytes for which `verify` and `open` start a worker.
-LANE, SHARE = 256, 1024
+# In KiB: the bytes for which a lane is started, and those for which `verify` and `open` start a worker.
+LANE, SHARE = 128, 1024
 STARTER = Path(__file__).resolve().with_name("thread_start.c")
 os.chdir(asked.folder)
 Path("key").write_text("5a" * 32 + "\n", encoding="ascii")
@@ -113,11 +113,17 @@ def thread_costs():
     return [0.0, *(float(line.split()[1]) / 1e6 for line in said.splitlines())]
 
 
+def lanes_of(several, size, count):
+    """How many lanes a group has, of SEVERAL asked for."""
+    return max(min(several, count, several * min(size, LANE) // LANE), 1)
+
+
 def starts(name, size, count):
     """How often a command starts threads over COUNT files of SIZE KiB, and how many at a time."""
     command, how, several = (name.split() + ["1"])[:3]
     if how == "--lanes":
-        return (-(-count // int(several)), min(int(several), count) - 1) if size >= LANE else (0, 0)
+        lanes = lanes_of(int(several), size, count)
+        return (-(-count // int(several)), lanes - 1) if lanes > 1 else (0, 0)
     if command == "seal":
         return count, max(min(int(several), size // 64), 1) - 1
     if command in ("verify", "open"):
@@ -140,7 +146,7 @@ def floor(name, parts, shared, size):
     _, how, several = (name.split() + ["1"])[:3]
     several, first = int(several) if several.isdigit() else 1, in_turn(name, parts, size)
     if how == "--lanes":
-        return first + shared / several
+        return first + shared / lanes_of(several, size, several)
     return max(first, (first + shared) / several)
 
 

@@ -128,18 +128,21 @@ fn end_group<F: Folder, L: Report>(
     status
 }
 
-// The least bytes of a job that is worth a lane. To seal fewer takes less time than to start a thread.
-const LANE_BYTES: usize = 1 << 18;
+// How many bytes are worth a lane. To seal them takes some 60 microseconds or more, a thread's start and end some 20.
+const LANE_BYTES: usize = 1 << 17;
 
-// With how many lanes a group of jobs is sealed: as many as it has jobs that are worth one, but at least one if there
-// is any job.
+// With how many lanes a group of jobs is sealed: one for each `LANE_BYTES` of them, but at least one if there is any job.
+// Of a longer job only as many count, as it is one lane's alone.
 fn lanes_for(jobs: &[Vec<u8>]) -> u32
     requires few { length jobs.now ≤ MAX_LANES }
     ensures within { result ≤ length jobs.now }
     ensures some { 0 < length jobs.now → 0 < result }
 {
-    let worth = jobs.iter().filter(|job| job.len() >= LANE_BYTES).count();
-    worth.max(1).min(jobs.len()) as u32
+    let mut bytes: usize = 0;
+    for job in jobs {
+        bytes = bytes.saturating_add(job.len().min(LANE_BYTES));
+    }
+    (bytes / LANE_BYTES).max(1).min(jobs.len()) as u32
 }
 
 // Seals the jobs of a group, each lane with its own seat. Returns none if memory for the outcomes is refused.
