@@ -1,28 +1,22 @@
 -- The status of a run is that of its lines, if all of them were written.
-use Rattle.std.proofs.Common.{arith, length, ◌≡◌, inl, inr, ⊎_elim, All, ℕ, Bool, true, false, if◌then◌else◌, List, [], ◌∷◌, Option, ap, codes, map, refl, sym, subst}
+use Rattle.std.proofs.Common.{arith, length, ◌≡◌, ◌++◌, inl, inr, ⊎_elim, All, ℕ, Bool, true, false, if◌then◌else◌, List, [], ◌∷◌, Option, ap, codes, map, refl, sym, subst}
 use Rattle.std.proofs.KnownBytes.{Appends-nil, Appends-trans}
 use Rattle.std.proofs.lemmas.List.Elements.{All-cons, All-nil, All-weaker}
 use Rattle.std.proofs.lemmas.Bool.{cases_eq}
 use Rattle.clap.specs.declared.parser.matches.ArgMatches.{ArgMatches}
 use Rattle.io_core.specs.Streams.{Appends}
-use Rattle.command_core.specs.declared.line.FileFault.TheVariants.{CannotOpen, NoSuffix, OutputExists, CannotCreate}
-use Rattle.command_core.specs.declared.line.FileFault.TheVariants.{OutOfMemory, NoNumber, AnotherLabel, Unopened}
-use Rattle.command_core.specs.declared.line.FileFault.TheVariants.{Unsealed, Changed, SpoolFailed}
 use Rattle.command_core.specs.declared.line.FileOutcome.{FileOutcome}
-use Rattle.command_core.specs.declared.line.FileOutcome.TheVariants.{Sealed, Opened, Good, Shown, Failed}
-use Rattle.sealer_core.specs.Piping.{FollowsLine, HasSealedStream, PipeView, WorksStream}
-use Rattle.sealer_core.specs.Sealing.{SealedUnder, line_of}
-use Rattle.journal_core.specs.declared.entry.Entry as journal
-use Rattle.journal_core.specs.declared.terms.Terms.{Terms}
-use Rattle.folder_core.specs.Changes.{stream_name}
 use Rattle.command_core.specs.Lines.{FileLine, lines_text}
 use Rattle.folder_core.specs.Record.{Entry, RunRecord}
 use Rattle.command_core.specs.Files.{HaveAdded}
 use Rattle.command_core.specs.Turns.{Printed}
 use Rattle.command_core.specs.Work.{AreTold}
 use Rattle.system_files.specs.Kept.{IsSplit, kept_text}
-use Rattle.command_line.specs.Given.{IsFlag}
-use Rattle.sealer.specs.Status.{IsOfPiping, IsStatusOf, IsStatusOver}
+use Rattle.command_line.specs.Asked.{IsNaming}
+use Rattle.command_line.specs.Given.{IsFlag, files_given}
+use Rattle.command_line.specs.declared.names.Naming.{Naming}
+use Rattle.sealer.specs.Names.{IsListText, IsListedBy, named_by}
+use Rattle.sealer.specs.Status.{IsStatusOf, IsStatusOfRun, IsStatusOver}
 
 -- lines that were reported
 pub of_lines : (fits : List ℕ → FileOutcome → Type 0) (status : ℕ) (lines : List FileLine) (old new : Option (List ℕ))
@@ -48,38 +42,6 @@ of_written fits status told true lines old mid new failures failures' fitting al
     (subst (λ n. IsStatusOf fits told (map (λ line. line.name) lines) old n) (sym (same refl))
     (of_lines fits told lines old mid failures failures' fitting all))
 of_written fits status told false lines old mid new failures failures' fitting all same is = inl is
-
--- what became of a stream is an outcome of `pipe`
-pub fits_stream : (under : SealedUnder) (place : ℕ) (old new : PipeView) (outcome : FileOutcome) (voids : List ℕ)
-    → WorksStream under place old new outcome voids → IsOfPiping outcome
-fits_stream _ _ _ _ (Sealed number bytes) _ _ = tt
-fits_stream _ _ _ _ (Failed NoNumber) _ _ = tt
-fits_stream _ _ _ _ (Failed (Unsealed fault)) _ _ = tt
-fits_stream _ _ _ _ (Failed CannotOpen) _ never = never
-fits_stream _ _ _ _ (Failed NoSuffix) _ never = never
-fits_stream _ _ _ _ (Failed OutputExists) _ never = never
-fits_stream _ _ _ _ (Failed CannotCreate) _ never = never
-fits_stream _ _ _ _ (Failed OutOfMemory) _ never = never
-fits_stream _ _ _ _ (Failed AnotherLabel) _ never = never
-fits_stream _ _ _ _ (Failed Changed) _ never = never
-fits_stream _ _ _ _ (Failed SpoolFailed) _ never = never
-fits_stream _ _ _ _ (Failed (Unopened fault)) _ never = never
-fits_stream _ _ _ _ (Opened bytes) _ never = never
-fits_stream _ _ _ _ (Good bytes) _ never = never
-fits_stream _ _ _ _ (Shown bytes facts) _ never = never
-
--- a stream that was sealed, its line, and what followed that
-pub of_stream : (status told : ℕ) (written : Bool) (under : SealedUnder) (place : ℕ) (was is : PipeView) (terms : Terms)
-    (history : List journal.Entry) (old line new : Printed)
-    → HasSealedStream under place was is terms history told old line → FollowsLine written line new
-    → status ≡ (if written then told else 2) → IsStatusOf (λ name. IsOfPiping) status (stream_name ∷ []) old.taken new.taken
-of_stream status told written under place was is terms history old line new sealed follows ends =
-    of_written (λ name. IsOfPiping) status told written (line_of stream_name sealed.outcome ∷ []) old.taken line.taken
-    new.taken old.failures line.failures
-    (All-cons (λ line. IsOfPiping line.outcome) (line_of stream_name sealed.outcome) []
-    (fits_stream under place was is sealed.outcome sealed.piped.voids sealed.piped.works)
-    (All-nil (λ line. IsOfPiping line.outcome)))
-    sealed.told (λ yes. ap (λ it. it.taken) (subst (λ w. FollowsLine w line new) yes follows)) ends
 
 -- one line that was reported
 pub of_line : (fits : List ℕ → FileOutcome → Type 0) (status : ℕ) (line : FileLine) (old new : Option (List ℕ))
@@ -144,3 +106,15 @@ pub moved : (fits : List ℕ → FileOutcome → Type 0) (status : ℕ) (names n
 moved fits status names names' old old' new new' n o e of =
     subst (λ e'. IsStatusOf fits status names' old' e') e
     (subst (λ o'. IsStatusOf fits status names' o' new) o (subst (λ n'. IsStatusOf fits status n' old new) n of))
+
+-- over the names of a run
+pub over_names : (fits : List ℕ → FileOutcome → Type 0) (matches : ArgMatches) (input text : Option (List ℕ)) (separator : ℕ)
+    (naming : Naming) (status : ℕ) (names listed : List (List ℕ)) (old new : Option (List ℕ))
+    → IsListText matches input text separator → IsNaming matches naming → IsListedBy naming separator text listed
+    → names ≡ named_by naming (files_given matches ++ listed)
+    → IsStatusOver fits matches status names old new → IsStatusOfRun fits matches input status old new
+over_names fits matches input text separator naming status names listed old new read asked each all of = inr (
+  names,
+  record { naming = naming; asked = asked; text = text; separator = separator; read = read; listed = listed; each = each; all = all },
+  of,
+)

@@ -1,3 +1,4 @@
 pub mod Audit
 pub mod Names
+pub mod Pipes
 pub mod Status

@@ -1,14 +1,11 @@
 -- The exit status of a run, by what it printed.
-use Rattle.std.specs.Prelude.{◌≡◌, ◌⊎◌, ◌++◌, ℕ, Bool, List, [], Option, Some, All, codes, false, map, option_map, ⊤}
+use Rattle.std.specs.Prelude.{◌≡◌, ◌⊎◌, ◌++◌, ℕ, Bool, List, [], Option, Some, All, codes, false, map, option_map}
 use Rattle.clap.specs.Matches.{first_value, found_of}
 use Rattle.clap.specs.Simple.{subcommand_rows_of}
 use Rattle.clap.specs.Walk.{rows_of}
 use Rattle.clap.specs.declared.parser.matches.ArgMatches.{ArgMatches}
 use Rattle.io_core.specs.Streams.{Appends}
-use Rattle.command_core.specs.declared.line.FileFault.TheVariants.{AnotherLabel, CannotOpen, Changed, NoNumber, SpoolFailed, Unopened}
-use Rattle.command_core.specs.declared.line.FileFault.TheVariants.{Unsealed}
 use Rattle.command_core.specs.declared.line.FileOutcome.{FileOutcome}
-use Rattle.command_core.specs.declared.line.FileOutcome.TheVariants.{Sealed, Opened, Failed}
 use Rattle.command_core.specs.Lines.{FileLine, lines_text, status_of_lines}
 use Rattle.command_core.specs.Work.{IsOfOpening, IsOfVerifying}
 use Rattle.command_line.specs.Given.{AreFactsAsked, IsFlag}
@@ -55,13 +52,6 @@ IsOfCommand Seal matches name outcome = IsOfSealing outcome
 IsOfCommand (Read reading) matches name outcome =
     (show : Bool) × AreFactsAsked matches show
     × IsOfReading reading show (first_value (found_of matches) (codes "to")) name outcome
-
--- an outcome that `pipe` can have
-abbrev pub IsOfPiping : FileOutcome → Type 0
-IsOfPiping (Sealed number bytes) = ⊤
-IsOfPiping (Failed NoNumber) = ⊤
-IsOfPiping (Failed (Unsealed fault)) = ⊤
-IsOfPiping _ = ⊥
 
 -- These were parsed as the subcommand's: their entries have the same rows.
 abbrev pub AreAsked : ArgMatches → ArgMatches → Type 0

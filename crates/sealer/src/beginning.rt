@@ -1,15 +1,22 @@
 //! What a run that seals begins with, and why it can't: its key, its journal, its ledger file and the witness of that.
-ghost use Rattle.std.specs.Prelude.{◌≡◌, IfErr, IfSome, None, Some, option_map, string_bytes};
+ghost use Rattle.std.specs.Prelude.{◌≡◌, ◌≢◌, IfErr, IfOk, IfSome, None, Some, [], false, option_map, string_bytes};
+ghost use Rattle.sqlite_wal.specs.Files.{image_at};
+ghost use Rattle.sqlite.specs.Files.{file_state, over_files};
+ghost use Rattle.sqlite.specs.State.{HasCleanDisk};
+ghost use Rattle.reserve_core.specs.NextRun.{IsFound};
 
 use crate::files::key_at;
 use crate::{FAULT, explain, tell_cause};
 use container_core::Key;
 use ledger_core::{Device, ToWrite};
+use sealer_core::LedgerFile;
+use sqlite::{FileFrom, FileStore, Start, Wary};
 use std::io::Error;
 use std::rt::{Clock, Files};
 use system_files::{About, Cause, JournalPlace, Step, new_journal};
 use system_ledger::{
-    FileWitness, LedgerFault, LedgerPath, Turn, WitnessFault, WitnessPath, WitnessRefusal, may_open,
+    FileWitness, LedgerFault, LedgerPath, MAX_TRIES, Turn, WitnessFault, WitnessPath,
+    WitnessRefusal, may_open, open_ledger,
 };
 
 /// What a run that seals begins with: its key, and its journal.
@@ -26,14 +33,18 @@ pub(crate) struct Begun<J: Drop> {
 pub(crate) struct Beginning<'a> {
     /// The path of its key file.
     pub(crate) key: &'a str,
-    /// The path of its ledger file, which no journal may be.
-    pub(crate) ledger: &'a str,
+    /// Its ledger file, which no journal may be.
+    pub(crate) ledger: LedgerPath<'a>,
+    /// For how many seconds it waits if another run holds the ledger file.
+    pub(crate) wait: u32,
+    /// The ledger's witness.
+    pub(crate) witness: WitnessPath<'a>,
+    /// The device under whose numbers it seals. The name of a journal in a folder has it.
+    pub(crate) device: Device,
     /// The path of its journal, if one is given.
     pub(crate) journal: Option<&'a str>,
     /// The folder in which its journal is made, if there is no such path.
     pub(crate) folder: Option<&'a str>,
-    /// The device that the name of a journal in a folder has.
-    pub(crate) device: Device,
 }
 
 /// Begins a run that seals: reads the key file, and creates the journal. A fault is printed, with `causes` its cause too,
@@ -50,7 +61,7 @@ pub(crate) fn begin_run<R: Files + AllocGlobal + Clock + Eprint>(
         Err(status) => return Err(status),
     };
     let place = journal_place(asked.journal, asked.folder, asked.device);
-    match new_journal(rt, place, asked.ledger) {
+    match new_journal(rt, place, asked.ledger.path) {
         Ok((journal, path)) => Ok(Begun { key, journal, path }),
         Err(fault) => {
             let about = About::Known(fault.cause());
@@ -99,27 +110,78 @@ pub(crate) enum Refusal {
     Witness(WitnessFault),
 }
 
-/// Checks whether the ledger file may be opened, then reads the witness that is asked for.
-pub(crate) fn look<'r>(
+/// Opens the ledger file that is asked for, and its witness. If another process holds it, the run waits as long as it is
+/// asked to.
+pub(crate) fn open_in_turn<'r>(
     host: &'r HostRuntime,
-    ledger: &LedgerPath<'r>,
-    asked: WitnessPath<'_>,
+    asked: &Beginning<'r>,
     key: &Key,
-    device: Device,
+) -> Result<(LedgerFile<FileStore<FileFrom<Wary>>>, FileWitness<'r>), Refusal>
+    ensures found { IfOk result (λ r. (keeper : _) × (r.0 ≡ LedgerFile.Kept keeper)
+        × (HasCleanDisk (file_state keeper) → (it : IsFound over_files (image_at ⟦<Wary as Start>⟧) keeper)
+        × (asked.now.ledger.may_make ≡ false → (file_state it.connection).now.schema.tables ≢ []))) }
+{
+    let mut turn = Turn::new(host, asked.ledger.path, asked.wait);
+    for _ in 0..MAX_TRIES {
+        match open_now(host, asked, key, Wary) {
+            Ok(opened) => return Ok(opened),
+            Err(refusal) => {
+                if !comes_again(&mut turn, refusal) {
+                    return Err(refusal);
+                }
+            }
+        }
+    }
+    Err(Refusal::Ledger(LedgerFault::Held, Step::Open))
+}
+
+// Checks whether the ledger file may be opened, reads the witness that is asked for, and opens the ledger file. `S`
+// denotes what the ledger file and its log hold.
+fn open_now<'r, S: Start>(
+    host: &'r HostRuntime,
+    asked: &Beginning<'r>,
+    key: &Key,
+    start: S,
+) -> Result<(LedgerFile<FileStore<FileFrom<S>>>, FileWitness<'r>), Refusal>
+    ensures found { IfOk result (λ r. (keeper : _) × (r.0 ≡ LedgerFile.Kept keeper)
+        × (HasCleanDisk (file_state keeper) → (it : IsFound over_files (image_at S.Start) keeper)
+        × (asked.now.ledger.may_make ≡ false → (file_state it.connection).now.schema.tables ≢ []))) }
+{
+    let witness = match look(host, asked, key) {
+        Ok(witness) => witness,
+        Err(refusal) => return Err(refusal),
+    };
+    match open_ledger(host, &asked.ledger, start) {
+        Ok(file) => Ok((file, witness)),
+        Err(fault) => Err(Refusal::Ledger(fault, Step::Open)),
+    }
+}
+
+// Checks whether the ledger file may be opened, then reads the witness that is asked for.
+fn look<'r>(
+    host: &'r HostRuntime,
+    asked: &Beginning<'r>,
+    key: &Key,
 ) -> Result<FileWitness<'r>, Refusal> {
-    match may_open(host, ledger) {
+    match may_open(host, &asked.ledger) {
         Ok(()) => {}
         Err(fault) => return Err(Refusal::Ledger(fault, Step::Check)),
     }
-    match FileWitness::open(host, asked, ledger.path, &key.id(), device) {
+    match FileWitness::open(
+        host,
+        asked.witness,
+        asked.ledger.path,
+        &key.id(),
+        asked.device,
+    ) {
         Ok(witness) => Ok(witness),
         Err(WitnessRefusal::Ledger(fault)) => Err(Refusal::Ledger(fault, Step::Check)),
         Err(WitnessRefusal::Witness(fault)) => Err(Refusal::Witness(fault)),
     }
 }
 
-/// Returns whether a run that was refused tries again. If another process holds the ledger file, it waits before.
-pub(crate) fn comes_again(turn: &mut Turn<'_>, refusal: Refusal) -> bool {
+// Whether a run that was refused tries again. If another process holds the ledger file, it waits before.
+fn comes_again(turn: &mut Turn<'_>, refusal: Refusal) -> bool {
     match refusal {
         Refusal::Ledger(fault, _) => turn.comes_again(fault),
         Refusal::Witness(_) => false,
@@ -130,8 +192,7 @@ pub(crate) fn comes_again(turn: &mut Turn<'_>, refusal: Refusal) -> bool {
 pub(crate) fn refuse_run<R: Files + AllocGlobal + Eprint>(
     rt: &R,
     refusal: Refusal,
-    ledger: &str,
-    witness: Option<&str>,
+    asked: Beginning<'_>,
     causes: bool,
 ) -> u8
     ensures status { result ≡ FAULT }
@@ -139,14 +200,14 @@ pub(crate) fn refuse_run<R: Files + AllocGlobal + Eprint>(
     match refusal {
         Refusal::Ledger(fault, step) => {
             let about = About::Ledger {
-                path: ledger,
+                path: asked.ledger.path,
                 fault,
                 step,
             };
             explain(rt, "ledger", fault, causes, about)
         }
         Refusal::Witness(fault) => {
-            let about = about_witness(fault, witness.unwrap_or(""));
+            let about = about_witness(fault, asked.witness.path.unwrap_or(""));
             explain(rt, "witness", fault, causes, about)
         }
     }
@@ -175,17 +236,16 @@ fn about_witness(fault: WitnessFault, path: &str) -> About<'_>
 pub(crate) fn tell_unrecorded<R: Files + AllocGlobal + Eprint>(
     rt: &R,
     unrecorded: Option<WitnessRefusal>,
-    ledger: &str,
-    witness: Option<&str>,
+    asked: Beginning<'_>,
     causes: bool,
 ) {
     match unrecorded {
         Some(WitnessRefusal::Witness(fault)) if causes => {
-            tell_cause(rt, about_witness(fault, witness.unwrap_or("")));
+            tell_cause(rt, about_witness(fault, asked.witness.path.unwrap_or("")));
         }
         Some(WitnessRefusal::Ledger(fault)) if causes => {
             let about = About::Ledger {
-                path: ledger,
+                path: asked.ledger.path,
                 fault,
                 step: Step::Check,
             };
@@ -193,20 +253,4 @@ pub(crate) fn tell_unrecorded<R: Files + AllocGlobal + Eprint>(
         }
         _ => {}
     }
-}
-
-/// Returns the witness at this path, if one is given.
-pub(crate) fn witness_asked(path: Option<&str>, is_new: bool) -> WitnessPath<'_>
-    ensures path { option_map (λ path. path.now) result.path ≡ option_map (λ path. path.now) path.entry }
-    ensures is_new { result.is_new ≡ is_new }
-{
-    WitnessPath { path, is_new }
-}
-
-/// Returns the ledger file at this path, to be made if there is none and `may_make` is true.
-pub(crate) fn ledger_of(path: &str, may_make: bool) -> LedgerPath<'_>
-    ensures path { result.path.now ≡ path.now }
-    ensures may_make { result.may_make ≡ may_make }
-{
-    LedgerPath { path, may_make }
 }

@@ -1,17 +1,18 @@
 //! What a run needs before its files: the key, the list of their names, where its lines go, and its progress.
 ghost use Rattle.std.specs.Prelude.{◌<◌, ◌≡◌, ◌++◌, ℕ, IfErr, IfOk, IfSome, List, map, option_map, string_bytes};
 ghost use Rattle.std.specs.Prelude.{unwrap_or};
+ghost use Rattle.command_line.specs.Asked.{IsNaming};
 ghost use Rattle.command_line.specs.Given.{files_given};
 ghost use Rattle.command_line.specs.Names.{ArePieces, IsListed};
 ghost use Rattle.folder_core.specs.Quotes.{quoted};
-ghost use Rattle.sealer.specs.Names.{IsListText};
+ghost use Rattle.sealer.specs.Names.{IsListText, IsListedBy, named_by};
 
-use crate::telling::tell_bad;
-use crate::{FAULT, Streams, Terminals, explain};
+use crate::telling::{refuse_list, tell_bad};
+use crate::{FAULT, Streams, Terminals, explain, print_complaint};
 use clap::ArgMatches;
 use command_line::{
-    ListRequest, Naming, Showing, UsageFault, files_of, list_request, quoted_files_of,
-    quoted_names, showing_asked,
+    ListRequest, Naming, Showing, UsageFault, borrowed, files_of, list_request, naming_asked,
+    quoted_files_of, quoted_names, showing_asked,
 };
 use container_core::Key;
 use ledger_core::{FromRead, ToWrite};
@@ -102,6 +103,58 @@ fn read_whole<I: Read>(alloc: Global, input: &mut I) -> Result<Vec<u8>, UsageFau
         Ok(_) => Ok(text),
         Err(error) if error.kind() == ErrorKind::OutOfMemory => Err(UsageFault::OutOfMemory),
         Err(_) => Err(UsageFault::CannotReadList),
+    }
+}
+
+/// Returns the names of a run, as it has them: those of the command line, then those of its list. `shown` keeps those that
+/// aren't as they were given. A fault is printed, and the error is its status.
+pub(crate) fn run_names<'n, R: AllocGlobal + Eprint>(
+    rt: &R,
+    matches: &'n ArgMatches<'_>,
+    list: &'n Option<NameList>,
+    shown: &'n mut Vec<String>,
+    causes: bool,
+) -> Result<Vec<&'n str>, u8>
+    requires ascii { IfSome list.now (λ one. one.separator < 128) }
+    ensures names { IfOk result (λ names. (naming : Naming) × IsNaming matches.now naming × (listed : List (List ℕ))
+        × IsListedBy naming (unwrap_or (option_map (λ one. one.separator) list.now) 10)
+        (option_map (λ one. one.text.items) list.now) listed
+        × (map (λ name. name.now) names.items ≡ named_by naming (files_given matches.now ++ listed))) }
+    ensures status { IfErr result (λ status. status ≡ FAULT) }
+{
+    match naming_asked(matches) {
+        Naming::Plain => match names_of(rt.alloc(), matches, list) {
+            Ok(names) => Ok(names),
+            Err(fault) => Err(refuse_list(rt, list, fault, causes)),
+        },
+        Naming::Quoted => match quotes_of(rt.alloc(), matches, list) {
+            Ok(names) => {
+                *shown = names;
+                borrowed_from(rt, shown.as_slice())
+            }
+            Err(fault) => Err(refuse_list(rt, list, fault, causes)),
+        },
+        Naming::KeepGoing => match list_pieces(rt, matches, list) {
+            Ok(names) => {
+                *shown = names;
+                borrowed_from(rt, shown.as_slice())
+            }
+            Err(fault) => Err(print_complaint(rt, "usage", fault)),
+        },
+    }
+}
+
+// The same names, borrowed. A fault is printed, and the error is its status.
+fn borrowed_from<'n, R: AllocGlobal + Eprint>(
+    rt: &R,
+    shown: &'n [String],
+) -> Result<Vec<&'n str>, u8>
+    ensures names { IfOk result (λ names. map (λ name. name.now) names.items ≡ map string_bytes shown.now) }
+    ensures status { IfErr result (λ status. status ≡ FAULT) }
+{
+    match borrowed(rt.alloc(), shown) {
+        Ok(names) => Ok(names),
+        Err(fault) => Err(print_complaint(rt, "usage", fault)),
     }
 }
 

@@ -5,12 +5,13 @@
 //! fault of usage, of the key file, the ledger or the journal file, or of the program's own reading and writing.
 #![tactic(auto)]
 
-ghost use Rattle.std.specs.Prelude.{◌≡◌, ◌∷◌, Some, [], codes, map, string_bytes, unwrap_or};
+ghost use Rattle.std.specs.Prelude.{◌≡◌, ◌∷◌, Some, [], codes, unwrap_or};
 ghost use Rattle.clap.specs.Matches.{first_value, found_of, subcommand_name_of};
 ghost use Rattle.clap.specs.declared.parser.matches.ArgMatches.{ArgMatches};
 ghost use Rattle.command_core.specs.Unpiping.{IsOfUnpiping};
 ghost use Rattle.sealer.specs.Audit.{IsAudited};
-ghost use Rattle.sealer.specs.Status.{AreAsked, IsOfCommand, IsOfPiping, IsStatusOf, IsStatusOfRun, IsStatusOver};
+ghost use Rattle.sealer.specs.Pipes.{PipesAsAsked};
+ghost use Rattle.sealer.specs.Status.{AreAsked, IsOfCommand, IsStatusOf, IsStatusOfRun};
 
 mod auditing;
 mod beginning;
@@ -27,7 +28,7 @@ mod telling;
 mod unpiping;
 
 use crate::auditing::audit_as_asked;
-use crate::files::{about_list, list_pieces, names_of, quotes_of, read_list};
+use crate::files::{about_list, read_list, run_names};
 use crate::heard::Heard;
 use crate::ledger::tell_ledger;
 use crate::opening::open_as_asked;
@@ -35,12 +36,9 @@ use crate::piping::pipe_as_asked;
 use crate::sealing::seal_as_asked;
 use crate::showing::show_as_asked;
 use crate::styles::asked_of;
-use crate::telling::refuse_list;
 use crate::unpiping::unpipe_as_asked;
 use clap::{ArgMatches, Error};
-use command_line::{
-    Naming, Reading, asks_for_processors, borrowed, command, naming_asked, verbose_asked, write_out,
-};
+use command_line::{Reading, asks_for_processors, command, verbose_asked, write_out};
 use ledger_core::ToWrite;
 use std::alloc::{AllocError, Global};
 use std::fmt::Display;
@@ -280,8 +278,9 @@ fn run<
     ensures verify { subcommand_name_of matches.now ≡ Some (codes "verify") → (asked : ArgMatches)
         × AreAsked matches.now asked × IsStatusOfRun (IsOfCommand (OverFiles.Read Reading.Verify) asked) asked
         (I.remaining input) result.0 (O.contents streams.output.0) (O.contents result.1.output.0) }
-    ensures stream { subcommand_name_of matches.now ≡ Some (codes "pipe")
-        → IsStatusOf (λ name. IsOfPiping) result.0 (codes "-" ∷ [])
+    ensures stream { subcommand_name_of matches.now ≡ Some (codes "pipe") → (asked : ArgMatches)
+        × AreAsked matches.now asked × PipesAsAsked asked (I.remaining input) result.0
+        (O.contents streams.output.0) (O.contents result.1.output.0)
         (E.contents streams.errors.0) (E.contents result.1.errors.0) }
     ensures back { subcommand_name_of matches.now ≡ Some (codes "unpipe") → (asked : ArgMatches)
         × AreAsked matches.now asked × IsStatusOf
@@ -338,64 +337,12 @@ fn over_files<
             return (status, streams);
         }
     };
-    match naming_asked(matches) {
-        Naming::Plain => match names_of(rt.alloc(), matches, &list) {
-            Ok(names) => over_names(rt, host, command, matches, names.as_slice(), input, streams),
-            Err(fault) => (refuse_list(rt, &list, fault, causes), streams),
-        },
-        Naming::Quoted => match quotes_of(rt.alloc(), matches, &list) {
-            Ok(shown) => over_shown(rt, host, command, matches, shown.as_slice(), input, streams),
-            Err(fault) => (refuse_list(rt, &list, fault, causes), streams),
-        },
-        Naming::KeepGoing => match list_pieces(rt, matches, &list) {
-            Ok(shown) => over_shown(rt, host, command, matches, shown.as_slice(), input, streams),
-            Err(fault) => (print_complaint(rt, "usage", fault), streams),
-        },
-    }
-}
-
-/// The same for the files that lines show by these names.
-fn over_shown<
-    R: Files + AllocGlobal + Clock + Eprint + Threads + Wait + Sync,
-    I: Read + Drop,
-    O: Write + Drop,
-    E: Write + Drop,
->(
-    rt: &R,
-    host: &HostRuntime,
-    command: OverFiles,
-    matches: &ArgMatches<'_>,
-    shown: &[String],
-    input: I,
-    streams: Streams<O, E>,
-) -> (u8, Streams<O, E>)
-    ensures status { IsStatusOver (IsOfCommand command matches.now) matches.now result.0 (map string_bytes shown.now)
-        (O.contents streams.output.0) (O.contents result.1.output.0) }
-{
-    match borrowed(rt.alloc(), shown) {
-        Ok(names) => over_names(rt, host, command, matches, names.as_slice(), input, streams),
-        Err(fault) => (print_complaint(rt, "usage", fault), streams),
-    }
-}
-
-/// The same for the files of these names.
-fn over_names<
-    R: Files + AllocGlobal + Clock + Eprint + Threads + Wait + Sync,
-    I: Read + Drop,
-    O: Write + Drop,
-    E: Write + Drop,
->(
-    rt: &R,
-    host: &HostRuntime,
-    command: OverFiles,
-    matches: &ArgMatches<'_>,
-    names: &[&str],
-    input: I,
-    streams: Streams<O, E>,
-) -> (u8, Streams<O, E>)
-    ensures status { IsStatusOver (IsOfCommand command matches.now) matches.now result.0
-        (map (λ name. name.now) names.now) (O.contents streams.output.0) (O.contents result.1.output.0) }
-{
+    let mut shown = Vec::new(rt.alloc());
+    let names = match run_names(rt, matches, &list, &mut shown, causes) {
+        Ok(names) => names,
+        Err(status) => return (status, streams),
+    };
+    let names = names.as_slice();
     match command {
         OverFiles::Seal => seal_as_asked(rt, host, matches, names, streams),
         OverFiles::Read(reading) => open_as_asked(rt, reading, matches, names, input, streams),

@@ -1,6 +1,6 @@
 //! The command that seals files, and the ledger file over which it seals them.
-ghost use Rattle.std.specs.Prelude.{◌≡◌, ◌⊎◌, ◌<◌, ◌≤◌, ℕ, Bool, List, length, map, ◌≢◌, IfOk, IfSome, [], false};
-ghost use Rattle.std.specs.Prelude.{OnErr, if◌then◌else◌, option_map};
+ghost use Rattle.std.specs.Prelude.{◌≡◌, ◌⊎◌, ◌<◌, ◌≤◌, ℕ, Bool, List, length, map, ◌≢◌, IfSome, [], false};
+ghost use Rattle.std.specs.Prelude.{if◌then◌else◌, option_map};
 ghost use Rattle.sha2.specs.Sha256.{sha256};
 ghost use Rattle.journal_core.specs.declared.entry.Entry.{Entry};
 ghost use Rattle.journal_core.specs.Journal.{terms_of};
@@ -18,10 +18,7 @@ ghost use Rattle.sealer_core.specs.Sealing.{FoldsFiles, HasSealed, IsOfSealing, 
 ghost use Rattle.sealer_core.specs.Sealing.{range_asked, sealed_under};
 ghost use Rattle.sealer.specs.Status.{IsOfCommand, IsStatusOf, IsStatusOver};
 
-use crate::beginning::{
-    Beginning, Begun, Refusal, begin_run, comes_again, ledger_of, look, refuse_run,
-    tell_unrecorded, witness_asked,
-};
+use crate::beginning::{Beginning, Begun, begin_run, open_in_turn, refuse_run, tell_unrecorded};
 use crate::files::{clear, outs_of, progress_of, streams_of};
 use crate::kept::{destination_of, worked_of};
 use crate::{OverFiles, Streams, print_complaint};
@@ -29,17 +26,18 @@ use clap::ArgMatches;
 use command_line::{SealRequest, naming_asked, seal_request};
 use container_core::Key;
 use folder_core::Folder;
+use ledger_core::ToWrite;
 use sealer_core::{
     LedgerFile, MAX_BYTES, MAX_LANES, MAX_WINDOW, MAX_WORKERS, Outs, Report, SealOptions,
     SealingOutputs, Witness, seal_all,
 };
-use sqlite::{FileFrom, FileStore, Start, Wary};
+use sqlite::{FileFrom, FileStore, Start};
 use std::io::Write;
 use std::rt::{Clock, Files};
 use std::sync::Wait;
 use std::thread::Threads;
-use system_files::{FileOptions, Makes, OwnPaths, Step, SystemFiles};
-use system_ledger::{LedgerFault, MAX_TRIES, Turn, close_ledger, open_ledger};
+use system_files::{FileOptions, Makes, OwnPaths, Progress, SystemFiles};
+use system_ledger::{LedgerPath, WitnessPath, close_ledger};
 
 /// Seals the files of these names. Returns the status, with the streams.
 pub(crate) fn seal_as_asked<
@@ -76,8 +74,14 @@ pub(crate) fn seal_as_asked<
         files: files.as_slice(),
         ..request
     };
+    let asked = seal_beginning(&request);
+    let Begun { key, journal, path } = match begin_run(rt, asked, causes) {
+        Ok(begun) => begun,
+        Err(status) => return (status, streams),
+    };
     let (files, terminal) = (request.files, streams.terminals.errors);
     let progress = progress_of(rt, matches, to.names, files, 1, terminal);
+    let progress = progress.as_ref();
     let options = FileOptions {
         names: to.names,
         outputs: to.names,
@@ -98,21 +102,56 @@ pub(crate) fn seal_as_asked<
         causes,
         warns_of_changes: true,
     };
-    let folder = SystemFiles::new(rt, None, progress.as_ref(), options);
-    seal_to(rt, host, &request, folder, streams)
+    let mut folder: SystemFiles<'_, '_, R, R::File> = SystemFiles::new(rt, None, progress, options);
+    if let Some(path) = &path {
+        folder.keep_out(path.as_str());
+    }
+    seal_to(rt, host, &key, &request, folder, progress, journal, streams)
+}
+
+// What a run of this request begins with.
+fn seal_beginning<'a>(request: &SealRequest<'_, 'a>) -> Beginning<'a>
+    ensures key { result.key.now ≡ request.now.key.now }
+    ensures ledger { result.ledger.path.now ≡ request.now.ledger.now }
+    ensures may_make { result.ledger.may_make ≡ request.now.may_make }
+    ensures wait { result.wait ≡ request.now.wait }
+    ensures witness { result.witness.path ≡ request.now.witness }
+    ensures is_new { result.witness.is_new ≡ request.now.new_witness }
+    ensures device { result.device ≡ request.now.device }
+    ensures journal { result.journal ≡ request.now.journal }
+    ensures folder { result.folder ≡ request.now.journal_in }
+{
+    Beginning {
+        key: request.key,
+        ledger: LedgerPath {
+            path: request.ledger,
+            may_make: request.may_make,
+        },
+        wait: request.wait,
+        witness: WitnessPath {
+            path: request.witness,
+            is_new: request.new_witness,
+        },
+        device: request.device,
+        journal: request.journal,
+        folder: request.journal_in,
+    }
 }
 
 // Seals what is asked for, with the outputs in this folder.
 fn seal_to<
-    'r,
     R: Files + AllocGlobal + Clock + Eprint + Threads + Wait + Sync,
+    F: Folder + SealingOutputs + Drop,
     O: Write + Drop,
     E: Write + Drop,
 >(
-    rt: &'r R,
-    host: &'r HostRuntime,
-    request: &SealRequest<'_, 'r>,
-    folder: SystemFiles<'_, 'r, R, R::File>,
+    rt: &R,
+    host: &HostRuntime,
+    key: &Key,
+    request: &SealRequest<'_, '_>,
+    folder: F,
+    progress: Option<&Progress<'_, R>>,
+    journal: Option<ToWrite<R::File>>,
     streams: Streams<O, E>,
 ) -> (u8, Streams<O, E>)
     requires files { 0 < length request.now.files.now }
@@ -120,62 +159,27 @@ fn seal_to<
     requires window { (0 < request.now.window) × (request.now.window ≤ MAX_WINDOW) }
     requires lanes { (0 < request.now.lanes) × (request.now.lanes ≤ MAX_LANES) }
     requires max_bytes { request.now.max_bytes ≤ MAX_BYTES }
+    requires unstarted { IfSome (F.rest folder) IsUnstarted }
     ensures status { IsStatusOf (λ name. IsOfSealing) result.0 (map (λ name. name.now) request.now.files.now)
         (O.contents streams.output.0) (O.contents result.1.output.0) }
 {
     let mut folder = folder;
-    let progress = folder.progress;
     let terminals = streams.terminals;
-    let causes = terminals.causes;
-    let asked = Beginning {
-        key: request.key,
-        ledger: request.ledger,
-        journal: request.journal,
-        folder: request.journal_in,
-        device: request.device,
-    };
-    let Begun { key, journal, path } = match begin_run(rt, asked, causes) {
-        Ok(begun) => begun,
-        Err(status) => return (status, streams),
-    };
-    if let Some(path) = &path {
-        folder.keep_out(path.as_str());
-    }
     let mut out = outs_of(streams, progress, journal);
-    let status = seal_in_folder(rt, host, &key, request, &mut folder, &mut out, causes);
+    let status = seal_in_turn(
+        rt,
+        host,
+        key,
+        request,
+        &mut folder,
+        &mut out,
+        terminals.causes,
+    );
     clear(progress);
     (status, streams_of(out, terminals))
 }
 
-// The same over any reports: a call that meets both large types has no proof.
-fn seal_in_folder<
-    'r,
-    R: Files + AllocGlobal + Clock + Eprint + Threads + Wait + Sync,
-    L: Report + Drop,
-    E: Report + Drop,
-    J: Report + Drop,
->(
-    rt: &R,
-    host: &'r HostRuntime,
-    key: &Key,
-    request: &SealRequest<'_, 'r>,
-    folder: &mut SystemFiles<'_, 'r, R, R::File>,
-    out: &mut Outs<L, E, J>,
-    causes: bool,
-) -> u8
-    requires files { 0 < length request.now.files.now }
-    requires workers { (0 < request.now.workers) × (request.now.workers ≤ MAX_WORKERS) }
-    requires window { (0 < request.now.window) × (request.now.window ≤ MAX_WINDOW) }
-    requires lanes { (0 < request.now.lanes) × (request.now.lanes ≤ MAX_LANES) }
-    requires max_bytes { request.now.max_bytes ≤ MAX_BYTES }
-    ensures status { IsStatusOf (λ name. IsOfSealing) result (map (λ name. name.now) request.now.files.now)
-        (L.taken out.old.lines) (L.taken out.new.lines) }
-{
-    seal_in_turn(rt, host, key, request, folder, out, causes)
-}
-
-// Seals the files once the ledger file can be opened. If another process holds it, the run waits as long as it is asked
-// to. Returns the status.
+// Seals the files once the ledger file is opened. Returns the status.
 fn seal_in_turn<
     'r,
     R: Files + AllocGlobal + Eprint + Threads + Wait + Sync,
@@ -201,62 +205,15 @@ fn seal_in_turn<
     ensures status { IsStatusOf (λ name. IsOfSealing) result (map (λ name. name.now) request.now.files.now)
         (L.taken out.old.lines) (L.taken out.new.lines) }
 {
-    let mut turn = Turn::new(host, request.ledger, request.wait);
-    for _ in 0..MAX_TRIES {
-        match seal_once(rt, host, key, request, folder, out, causes) {
-            Ok(status) => return status,
-            Err(refusal) => {
-                if !comes_again(&mut turn, refusal) {
-                    return refuse_run(rt, refusal, request.ledger, request.witness, causes);
-                }
-            }
-        }
-    }
-    let refusal = Refusal::Ledger(LedgerFault::Held, Step::Open);
-    refuse_run(rt, refusal, request.ledger, request.witness, causes)
-}
-
-// Seals the files if the ledger file can be opened now. Else nothing was touched or printed.
-fn seal_once<
-    'r,
-    R: Files + AllocGlobal + Eprint + Threads + Wait + Sync,
-    F: Folder + SealingOutputs,
-    L: Report + Drop,
-    E: Report + Drop,
-    J: Report + Drop,
->(
-    rt: &R,
-    host: &'r HostRuntime,
-    key: &Key,
-    request: &SealRequest<'_, 'r>,
-    folder: &mut F,
-    out: &mut Outs<L, E, J>,
-    causes: bool,
-) -> Result<u8, Refusal>
-    requires files { 0 < length request.now.files.now }
-    requires workers { (0 < request.now.workers) × (request.now.workers ≤ MAX_WORKERS) }
-    requires window { (0 < request.now.window) × (request.now.window ≤ MAX_WINDOW) }
-    requires lanes { (0 < request.now.lanes) × (request.now.lanes ≤ MAX_LANES) }
-    requires max_bytes { request.now.max_bytes ≤ MAX_BYTES }
-    requires unstarted { IfSome (F.rest folder.old) IsUnstarted }
-    ensures status { IfOk result (λ status. IsStatusOf (λ name. IsOfSealing) status
-        (map (λ name. name.now) request.now.files.now) (L.taken out.old.lines) (L.taken out.new.lines)) }
-    ensures refused { OnErr result ((folder.new ≡ folder.old) × (out.new ≡ out.old)) }
-{
-    let ledger = ledger_of(request.ledger, request.may_make);
-    let asked = witness_asked(request.witness, request.new_witness);
-    let mut witness = match look(host, &ledger, asked, key, request.device) {
-        Ok(witness) => witness,
-        Err(refusal) => return Err(refusal),
+    let asked = seal_beginning(request);
+    let (mut file, mut witness) = match open_in_turn(host, &asked, key) {
+        Ok(opened) => opened,
+        Err(refusal) => return refuse_run(rt, refusal, asked, causes),
     };
-    let (status, file) = match seal_from(rt, host, key, request, Wary, &mut witness, folder, out) {
-        Ok(sealed) => sealed,
-        Err(fault) => return Err(Refusal::Ledger(fault, Step::Open)),
-    };
+    let status = seal_from(rt, key, request, &mut file, &mut witness, folder, out);
     close_ledger(file);
-    let unrecorded = witness.refusal();
-    tell_unrecorded(rt, unrecorded, request.ledger, request.witness, causes);
-    Ok(status)
+    tell_unrecorded(rt, witness.refusal(), asked, causes);
+    status
 }
 
 // The options of this request.
@@ -280,8 +237,8 @@ fn seal_options<'q>(request: &'q SealRequest<'q, '_>) -> SealOptions<'q>
     }
 }
 
-/// Opens the ledger file that is asked for, and seals the files under a range reserved there. Returns the status, with
-/// the ledger file. `S` denotes what the ledger file and its log hold.
+/// Seals the files that are asked for under a range reserved in this ledger file, as it was opened. Returns the status.
+/// `S` denotes what the ledger file and its log hold.
 fn seal_from<
     R: AllocGlobal + Threads + Wait + Sync,
     S: Start,
@@ -292,34 +249,33 @@ fn seal_from<
     J: Report + Drop,
 >(
     rt: &R,
-    host: &HostRuntime,
     key: &Key,
     request: &SealRequest<'_, '_>,
-    start: S,
+    file: &mut LedgerFile<FileStore<FileFrom<S>>>,
     witness: &mut N,
     folder: &mut F,
     out: &mut Outs<L, E, J>,
-) -> Result<(u8, LedgerFile<FileStore<FileFrom<S>>>), LedgerFault>
+) -> u8
     requires files { 0 < length request.now.files.now }
     requires workers { (0 < request.now.workers) × (request.now.workers ≤ MAX_WORKERS) }
     requires window { (0 < request.now.window) × (request.now.window ≤ MAX_WINDOW) }
     requires lanes { (0 < request.now.lanes) × (request.now.lanes ≤ MAX_LANES) }
     requires max_bytes { request.now.max_bytes ≤ MAX_BYTES }
     requires unstarted { IfSome (F.rest folder.old) IsUnstarted }
-    ensures status { IfOk result (λ r. r.0 ≤ 2) }
-    // The ledger file was opened as it was found, and at most one range was appended to it. Then no output was touched,
-    // or the files were sealed over a range reserved there, with one legal history. The file has that range without its
-    // log, and the journal records the history.
-    ensures run { IfOk result (λ r. (keeper : _)
+    // The ledger file was opened as it was found.
+    requires found { (keeper : _) × (file.old ≡ LedgerFile.Kept keeper)
         × (HasCleanDisk (file_state keeper) → (it : IsFound over_files (image_at S.Start) keeper)
-        × (request.now.may_make ≡ false → (file_state it.connection).now.schema.tables ≢ []))
-        × ReservesFilesOnce LedgerFile.Kept LedgerFile.Folded (sha256 key.now) request.now.device
-        (length request.now.files.now) (LedgerFile.Kept keeper) r.1
-        × (((r.0 ≡ 2) × (folder.new ≡ folder.old) × (out.new.lines ≡ out.old.lines)
+        × (request.now.may_make ≡ false → (file_state it.connection).now.schema.tables ≢ [])) }
+    ensures status { result ≤ 2 }
+    // At most one range was appended to it. Then no output was touched, or the files were sealed over a range reserved
+    // there, with one legal history. The file has that range without its log, and the journal records the history.
+    ensures run { ReservesFilesOnce LedgerFile.Kept LedgerFile.Folded (sha256 key.now) request.now.device
+        (length request.now.files.now) file.old file.new
+        × (((result ≡ 2) × (folder.new ≡ folder.old) × (out.new.lines ≡ out.old.lines)
         × (out.new.journal ≡ out.old.journal))
         ⊎ ((range : Numbers) × (history : List Entry) × (told : ℕ) × (written : Bool)
         × FoldsFiles LedgerFile.Kept LedgerFile.Folded
-        (range_asked (sha256 key.now) request.now.device (length request.now.files.now)) (LedgerFile.Kept keeper) r.1 range
+        (range_asked (sha256 key.now) request.now.device (length request.now.files.now)) file.old file.new range
         × IsLawfulRange range
         × IsWitnessed (N.floor witness.old) (N.recorded witness.old) (N.recorded witness.new) range
         × HasSealed (sealed_under key.now request.now.shape range.device request.now.max_bytes)
@@ -329,25 +285,12 @@ fn seal_from<
         (option_map (started key.now range) (F.rest folder.old)) (F.rest folder.new)
         × IsWritten J.taken (journal_text (terms_of range request.now.lanes) history) written
         out.old.journal out.new.journal
-        × (r.0 ≡ (if written then told else 2))))) }
-    ensures complaint { IfOk result (λ r. r.0 ≢ 2 → out.new.faults ≡ out.old.faults) }
+        × (result ≡ (if written then told else 2)))) }
+    ensures complaint { result ≢ 2 → out.new.faults ≡ out.old.faults }
     // Standard error takes one complaint, or a prefix of one, or nothing.
-    ensures complains { IfOk result (λ r. (out.new.faults ≡ out.old.faults)
-        ⊎ Complains (E.taken out.old.faults) (E.taken out.new.faults)) }
-    // The ledger file can't be used: no input or output was touched, no line and no journal was written.
-    ensures unopened { OnErr result ((folder.new ≡ folder.old) × (out.new ≡ out.old)) }
+    ensures complains { (out.new.faults ≡ out.old.faults)
+        ⊎ Complains (E.taken out.old.faults) (E.taken out.new.faults) }
 {
     let options = seal_options(request);
-    let mut file = open_ledger(host, &ledger_of(request.ledger, request.may_make), start)?;
-    let status = seal_all(
-        rt,
-        rt.alloc(),
-        key,
-        &mut file,
-        witness,
-        folder,
-        &options,
-        out,
-    );
-    Ok((status, file))
+    seal_all(rt, rt.alloc(), key, file, witness, folder, &options, out)
 }

@@ -17,7 +17,7 @@ use system_ledger::{Holding, is_older};
 use thiserror::Error;
 
 /// Why not all lines of a command were printed.
-#[derive(Clone, Copy, PartialEq, Eq, Debug, Error)]
+#[derive(Clone, Copy, Debug, Error)]
 pub(crate) enum TellFault {
     /// Memory was refused.
     #[error("out of memory")]

@@ -12,7 +12,7 @@ use system_files::{About, Makes, Names, Style, open_unbuffered, target_of};
 use thiserror::Error;
 
 /// Why the lines with which containers are compared can't be read.
-#[derive(Clone, Copy, PartialEq, Eq, Debug, Error)]
+#[derive(Clone, Copy, Debug, Error)]
 enum AgainstFault {
     /// The file can't be opened.
     #[error("cannot open")]

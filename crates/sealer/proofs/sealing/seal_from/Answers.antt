@@ -1,9 +1,7 @@
-use Rattle.std.proofs.Common.{◌∙◌}
 use Rattle.sealer.proofs.sealing.seal_from.Goals as goal
 
 pub returns-clause-run : goal.returns-clause-run
 returns-clause-run g c =
-    let found = c.in_ok-file.ensures.found in
-    let sealed = c.seal_all-status.ensures in
+    let sealed = c.seal_all.ensures in
     let of = c.seal_options-options.ensures in
-    (found.0, λ clean. ((found.2 clean).0, λ no. (found.2 clean).1 (c.ledger_of.ensures.may_make ∙ no)), rw (← found.1) (rw (← of.device) (rw (← of.files) sealed.once)), rw (← found.1) (rw (← of.device) (rw (← of.files) (rw (← of.lanes) (rw (← of.max_bytes) (rw (← of.shape) sealed.run))))))
+    (rw (← of.device) (rw (← of.files) sealed.once), rw (← of.device) (rw (← of.files) (rw (← of.lanes) (rw (← of.max_bytes) (rw (← of.shape) sealed.run)))))
