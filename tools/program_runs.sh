@@ -720,19 +720,24 @@ sealed files/b file 1 bytes 1492' ''
         is "what-isn't-on-the-disk-is-void by $lanes" test "$(grep -c ' void 0$' files/journal$lanes) $(grep -c ' sealed 1$' files/journal$lanes)" = '1 1'
         is "no-container-is-left by $lanes" test "$(ls -A "files/synced$lanes")" = b.stm
     done
-    # How many threads are started: a group has a lane for each of its files that are worth one, the caller's thread among them.
+    # How many threads are started: a group has a lane for each 128 KiB of its files, the caller's thread among them. A longer file counts as these.
     fresh
     started() { strace -f -e trace=clone,clone3 -o calls "$sealer" seal --key "$key" --ledger files/l --device 1 "$@" > out 2> err; status=$?; }
-    for name in a b c d; do head -c 262144 /dev/zero > "files/$name"; done
-    started --lanes 4 files/a files/b files/c files/d
-    is lanes-of-a-group test "$status $(grep -c 'clone3\?(' calls)" = '0 3'
-    rm files/*.stm
-    started --lanes 2 files/a files/b files/c files/d
-    is lanes-of-two-groups test "$status $(grep -c 'clone3\?(' calls)" = '0 2'
-    rm files/*.stm
-    for name in b c d; do head -c 262143 /dev/zero > "files/$name"; done
-    started --lanes 4 files/a files/b files/c files/d
-    is lanes-of-small-files test "$status $(grep -c 'clone3\?(' calls)" = '0 0'
+    # lanes_of LANES THREADS A B C D: the bytes of four files
+    lanes_of() {
+        local lanes=$1 threads=$2 bytes name
+        shift 2
+        rm -f files/*.stm
+        for name in a b c d; do bytes=$1; shift; head -c "$bytes" /dev/zero > "files/$name"; done
+        started --lanes "$lanes" files/a files/b files/c files/d
+        is "lanes-of-$bytes by $lanes" test "$status $(grep -c 'clone3\?(' calls)" = "0 $threads"
+    }
+    lanes_of 4 3 131072 131072 131072 131072
+    lanes_of 2 2 131072 131072 131072 131072
+    lanes_of 4 2 131072 131072 131072 131071
+    lanes_of 4 1 65536 65536 65536 65536
+    lanes_of 4 0 32768 32768 32768 32767
+    lanes_of 4 0 4194304 1 1 1
     head -c 262144 /dev/zero > files/e
     started --workers 4 files/e
     is workers-of-a-file test "$status $(grep -c 'clone3\?(' calls)" = '0 3'
