@@ -19,7 +19,7 @@ use Rattle.sealer.specs.Names.{IsListText, IsListedBy, named_by}
 use Rattle.sealer.specs.Status.{IsStatusOf, IsStatusOfRun, IsStatusOver}
 
 -- lines that were reported
-pub of_lines : (fits : List ℕ → FileOutcome → Type 0) (status : ℕ) (lines : List FileLine) (old new : Option (List ℕ))
+of_lines : (fits : List ℕ → FileOutcome → Type 0) (status : ℕ) (lines : List FileLine) (old new : Option (List ℕ))
     (failures failures' : Option ℕ) → All (λ line. fits line.name line.outcome) lines
     → AreTold status lines old new failures failures' → IsStatusOf fits status (map (λ line. line.name) lines) old new
 of_lines fits status lines old new _ _ fitting told = ⊎_elim (λ two. inl two)

@@ -33,8 +33,8 @@ module _ (key : List ℕ) (shape : ShapeView) (device : ℕ) (input old new : Op
   abbrev pub PipesUnder : ℕ → Option (List ℕ) → Option (List ℕ) → Type 0
   PipesUnder status errors errors' = TakesFront × IsStatusOf (λ name. IsOfPiping) status (codes "-" ∷ []) errors errors'
 
--- The status is 2 and the output took nothing; or the input was sealed in the shape and with the device that the options
--- ask for, under some key.
+-- The status is 2 and the output took nothing; or standard error has the stream's line, and the output took what that
+-- says, under some key, in the shape and with the device that the options ask for.
 abbrev pub PipesAsAsked : ArgMatches → Option (List ℕ) → ℕ → Option (List ℕ) → Option (List ℕ) → Option (List ℕ)
     → Option (List ℕ) → Type 0
 PipesAsAsked matches input status old new errors errors' = ((status ≡ 2) × Keeps old new)

@@ -26,7 +26,7 @@ IsFinishedAfter entry entries name bytes = (before : List Entry) × (content : C
 
 -- ---- sealed
 
--- A run of `seal_all` that ended added these entries to the record (its clause `run`). `IsShape` is of each `Shape`.
+-- A run of `seal_all` that ended added these entries to the record (its clause `run`). Each `Shape` has `IsShape`.
 abbrev pub HasSealedFiles : SealedUnder → List Entry → Type 0
 HasSealedFiles under entries = IsShape under.shape × (names : List (List ℕ)) × (terms : Terms)
     × (history : List operation.Entry) × (status : ℕ) × (old : Printed) × (new : Printed) × (before : RunRecord)

@@ -128,7 +128,7 @@ fn end_group<F: Folder, L: Report>(
     status
 }
 
-// How many bytes are worth a lane. To seal them takes some 60 microseconds or more, a thread's start and end some 20.
+// How many bytes are worth a lane. To seal them takes 60 to 125 microseconds, a thread's start and end 20 to 60.
 const LANE_BYTES: usize = 1 << 17;
 
 // With how many lanes a group of jobs is sealed: one for each `LANE_BYTES` of them, but at least one if there is any job.
