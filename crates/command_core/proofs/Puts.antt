@@ -26,7 +26,7 @@ use Rattle.command_core.specs.declared.line.FileOutcome.TheVariants.{Failed}
 use Rattle.command_core.specs.declared.putting.FillFault.TheVariants.{Uncreated, Unfilled}
 use Rattle.command_core.specs.Again.{IsAgainFault, IsBegun}
 use Rattle.command_core.specs.Putting.{IsAgainIn, closed_output, fault_of_fill, fault_of_stop, once_if}
-use Rattle.command_core.specs.Work.{IsOfOpening, IsOfVerifying, file_read_failed, reading_failed, write_failed}
+use Rattle.command_core.specs.Work.{IsOfOpening, IsOfVerifying, file_read_failed, file_write_failed, reading_failed}
 
 -- ---- before it is taken in hand
 
@@ -303,7 +303,7 @@ again_read (Broken fault) second = by fault
 
 -- and that a write failed where one did
 pub lost_by : (key header : List ℕ) (most : ℕ) (left : Option (List ℕ)) (stopped : Stopped) → IsAgainFault key header most left stopped
-    → broken_by_write (Err stopped) ≡ write_failed (Failed (fault_of_stop stopped))
+    → broken_by_write (Err stopped) ≡ file_write_failed (Failed (fault_of_stop stopped))
 lost_by key header most left (Refused fault) why = absurd why
 lost_by key header most left (Broken bytes.Write) why = refl
 lost_by key header most left _ why = refl

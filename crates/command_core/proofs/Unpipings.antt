@@ -25,7 +25,7 @@ use Rattle.command_core.specs.Files.{AddsClosed}
 use Rattle.command_core.specs.Labels.{IsLabelled}
 use Rattle.command_core.specs.Putting.{IsAgainIn, fault_of_stop, once_if}
 use Rattle.command_core.specs.Unpiping.{HasUnpiped, HasUnpipedRead, IsCutShort, IsOfUnpiping, IsReadTwice, Unpipes, UnpipesRead, outputs_view}
-use Rattle.command_core.specs.Work.{IsFaultOf, IsOfVerifying, reading_failed, write_failed}
+use Rattle.command_core.specs.Work.{IsFaultOf, IsOfVerifying, file_write_failed, reading_failed}
 use Rattle.command_core.proofs.Giving.{given_after, gives_nothing, giving_on, giving_to}
 use Rattle.command_core.proofs.Puts.{IsAllowedAgain, begun_at, given, lost_by, stop_of}
 use Rattle.command_core.proofs.Files.{IsHeaded, Reads, closes, differ, grows_to, known_at, nothing_closed, told_grows, unrepeated}
@@ -87,7 +87,7 @@ refused_kept taken SpoolFailed of = absurd of
 refused_kept taken (Unopened f) of = λ _. Keeps-refl taken
 refused_kept taken _ of = of
 
-no_write : (f : FileFault) → IsOfVerifying true (Failed f) → write_failed (Failed f) ≡ false
+no_write : (f : FileFault) → IsOfVerifying true (Failed f) → file_write_failed (Failed f) ≡ false
 no_write (Unopened bytes.Write) of = absurd of
 no_write _ of = refl
 

@@ -32,12 +32,12 @@ byte_text byte =
 abbrev pub label_text : List ℕ → List ℕ
 label_text label = flat_map byte_text label
 
-abbrev pub quoted : List ℕ → List ℕ
-quoted label = 34 ∷ label_text label ++ 34 ∷ []
+abbrev pub quoted_label : List ℕ → List ℕ
+quoted_label label = 34 ∷ label_text label ++ 34 ∷ []
 
 -- what follows the numbers: nothing in version 1, which has no label
 abbrev pub label_part : Facts → List ℕ
-label_part facts = if facts.version == 1 then [] else codes " label " ++ quoted (label_of facts)
+label_part facts = if facts.version == 1 then [] else codes " label " ++ quoted_label (label_of facts)
 
 -- `  version V chunk C device D file N label "L"`
 unfoldable pub facts_text : Facts → List ℕ

@@ -23,7 +23,7 @@ use Rattle.command_core.specs.Lines.{FileLine}
 use Rattle.command_core.specs.Putting.{closed_output, once_if}
 use Rattle.command_core.specs.Turns.{Printed}
 use Rattle.command_core.specs.Work.{AreTold, IsFaultOf, IsOfOpening, IsOfVerifying, asked_label, asked_output, output_for}
-use Rattle.command_core.specs.Work.{reading_failed, write_failed}
+use Rattle.command_core.specs.Work.{file_write_failed, reading_failed}
 
 -- The file of this name was just opened for reading: no call of its reader failed, and nothing is in hand.
 pub record IsOpenFile (name : List ℕ) (left : Option (List ℕ)) (failures : Option ℕ) (rest : Option RunRecord) : Type 0 where
@@ -76,7 +76,7 @@ AddsBrokenOff are key most label output name fault new = (header : List ℕ) × 
     × (written : List ℕ) × are first last × HasHeader header first × ((plain : List ℕ) × IsGood key most label first plain)
     × IsBegun key most header last (Some []) (Some written)
     × (new ≡ Happened (event.Read name first) ∷ Happened (event.Repeated name last)
-    ∷ closed_output output (Checked key header last) written (once_if (write_failed (Failed fault))) GivenUp ∷ [])
+    ∷ closed_output output (Checked key header last) written (once_if (file_write_failed (Failed fault))) GivenUp ∷ [])
 
 -- What comes for a file of this name that is open, and to be opened to this output. An output is created only after the
 -- file was read, opens and has the label. It is finished with the plaintext of the last reading, once, where no write

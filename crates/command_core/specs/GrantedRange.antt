@@ -43,7 +43,7 @@ FoldsARange g kept folded is_folded asked old new range =
 
 -- The ledger file was folded with this range, and so has it for good. The range was reserved under this key, over a
 -- file that a run had opened.
-abbrev pub StandsIn : {S L F : Type 0} → Ghosts S → (Held S → F) → (L → F) → (S → L → Type 0) → List ℕ → F → Numbers
+abbrev pub IsGrantedIn : {S L F : Type 0} → Ghosts S → (Held S → F) → (L → F) → (S → L → Type 0) → List ℕ → F → Numbers
     → Type 0
-StandsIn g kept folded is_folded key file range = (count : ℕ) × (before : _) × IsLawfulRange range
+IsGrantedIn g kept folded is_folded key file range = (count : ℕ) × (before : _) × IsLawfulRange range
     × FoldsARange g kept folded is_folded (range_asked (sha256 key) range.device count) before file range

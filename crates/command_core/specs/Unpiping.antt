@@ -13,7 +13,7 @@ use Rattle.command_core.specs.declared.line.FileOutcome.{FileOutcome}
 use Rattle.command_core.specs.declared.line.FileOutcome.TheVariants.{Opened, Failed}
 use Rattle.command_core.specs.Again.{IsBegun, IsGood}
 use Rattle.command_core.specs.Files.{AddsClosed, AddsUnrepeated}
-use Rattle.command_core.specs.Work.{IsFaultOf, write_failed}
+use Rattle.command_core.specs.Work.{IsFaultOf, file_write_failed}
 
 -- Outputs at a moment: the record of their run, but for the bytes of the one in hand; what that one took; and how many
 -- writes to it failed. Each as far as it is known.
@@ -87,7 +87,7 @@ pub record HasUnpipedSo (does : Option (List ℕ) → Option (List ℕ) → File
     (place : ℕ) (old new : OutputsView) (outcome : FileOutcome) : Type 0 where
   pub works : GrowsGiving place (does old.taken new.taken outcome) old.rest new.rest
   pub kept : IsOfUnpiping old.taken new.taken outcome
-  pub write : new.failures ≡ counted (write_failed outcome) old.failures
+  pub write : new.failures ≡ counted (file_write_failed outcome) old.failures
 
 -- `unpipe_all` did this with a file of this name.
 abbrev pub HasUnpiped : List ℕ → ℕ → Option (List ℕ) → List ℕ → ℕ → OutputsView → OutputsView → FileOutcome → Type 0

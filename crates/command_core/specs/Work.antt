@@ -99,9 +99,9 @@ reading_failed (Failed SpoolFailed) = true
 reading_failed _ = false
 
 -- whether the outcome is that a write failed
-abbrev pub write_failed : FileOutcome → Bool
-write_failed (Failed (Unopened Write)) = true
-write_failed _ = false
+abbrev pub file_write_failed : FileOutcome → Bool
+file_write_failed (Failed (Unopened Write)) = true
+file_write_failed _ = false
 
 -- What a writer of lines got: a prefix of them. With a status other than 2 it got all of them, and the status is
 -- theirs; with 2 not all. At most one write failed, and then the status is 2: after a failed write no other is tried.

@@ -1,7 +1,7 @@
 //! What a good container's header says, as `verify --show` prints it. The tags of all chunks cover the header.
 ghost use Rattle.std.specs.Prelude.{◌≡◌, ◌<◌, Some, false};
 ghost use Rattle.std.specs.Fmt.{WritesOnOk, digit_glyph};
-ghost use Rattle.command_core.specs.Facts.{IsOfHeader, byte_text, facts_text, is_printed, label_text, quoted};
+ghost use Rattle.command_core.specs.Facts.{IsOfHeader, byte_text, facts_text, is_printed, label_text, quoted_label};
 
 use container_core::{Header, MAX_LABEL};
 use std::fmt;
@@ -73,7 +73,7 @@ impl fmt::Display for Facts {
 pub struct ShownLabel<'a>(pub &'a [u8]);
 
 impl fmt::Display for ShownLabel<'_> {
-    ghost output = { λ label. Some (quoted label.0.now) };
+    ghost output = { λ label. Some (quoted_label label.0.now) };
 
     fn fmt<W: fmt::Write>(&self, f: &mut fmt::Formatter<W>) -> fmt::Result {
         f.write_char('"')?;
@@ -110,7 +110,8 @@ fn is_printed(byte: u8) -> bool
     byte > 31 && byte < 127 && byte != b'"' && byte != b'\\'
 }
 
-fn hex_digit(digit: u8) -> char
+/// Returns a hexadecimal digit, in small letters.
+pub fn hex_digit(digit: u8) -> char
     requires { digit < 16 }
     ensures value { result ≡ digit_glyph false digit }
     ensures ascii { result < 128 }

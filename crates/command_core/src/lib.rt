@@ -19,7 +19,7 @@ pub mod unpiping;
 pub mod verifying;
 
 pub use crate::commands::{MAX_BYTES, MAX_OPENED_BYTES, OpenOptions, Outs, tell};
-pub use crate::facts::{Facts, ShownLabel};
+pub use crate::facts::{Facts, ShownLabel, hex_digit};
 pub use crate::key_file::{KeyFault, read_key};
 pub use crate::line::{FileFault, FileOutcome, Line};
 pub use crate::opening::open_all;

@@ -1,6 +1,6 @@
 //! Outputs into which containers are written, under one key and the numbers of one range.
 ghost use Rattle.std.specs.Prelude.{◌≡◌, IfSome};
-ghost use Rattle.command_core.specs.GrantedRange.{StandsIn};
+ghost use Rattle.command_core.specs.GrantedRange.{IsGrantedIn};
 ghost use Rattle.folder_core.specs.Changes.{Becomes, IsUnstarted, started};
 
 use container_core::Key;
@@ -16,7 +16,7 @@ pub trait SealingOutputs: Outputs {
     /// was given before, and nothing is in hand, where the record is known.
     fn start<S: Fold>(&mut self, file: &LedgerFile<S>, key: &Key, ledger: &Ledger)
         requires unstarted { IfSome (Self.rest self.old) IsUnstarted }
-        requires stands { StandsIn S.Store LedgerFile.Kept LedgerFile.Folded S.is_folded key.now file.now
+        requires stands { IsGrantedIn S.Store LedgerFile.Kept LedgerFile.Folded S.is_folded key.now file.now
             ledger.now.terms.range }
         ensures started { Becomes (started key.now ledger.now.terms.range) (Self.rest self.old) (Self.rest self.new) }
         ensures taken { Self.taken self.new ≡ Self.taken self.old }

@@ -4,12 +4,12 @@ use Rattle.std.specs.List.{All}
 use Rattle.std.specs.Str.{is_utf8}
 use Rattle.std.proofs.lemmas.Bool.{false_from_ne_true}
 use Rattle.std.proofs.lemmas.Str.{IsUtf8-from_is_utf8, is_utf8-from_IsUtf8}
-use Rattle.command_line.specs.Names.{ended, ArePiecesOf, fault_of_piece, bad_pieces}
+use Rattle.command_line.specs.Names.{each_ended, ArePiecesOf, fault_of_piece, bad_pieces}
 use Rattle.command_line.specs.declared.lists.BadPiece.{BadPiece}
 use Rattle.command_line.specs.declared.lists.PieceFault.{PieceFault}
 use Rattle.command_line.specs.declared.lists.PieceFault.TheVariants.{NotText}
 use Rattle.std.proofs.lemmas.List.Elements.{All-append}
-use Rattle.command_line.proofs.Ended.{ended-more}
+use Rattle.command_line.proofs.Ended.{each_ended-more}
 
 pub text : (piece : List ℕ) → (length piece ≡ 0 → ⊥) → IsUtf8 piece → fault_of_piece piece ≡ None
 unfolding fault_of_piece
@@ -41,7 +41,7 @@ seen one = (one.number, one.fault, one.bytes.now)
 -- what was cut off the list, the number of the next piece, and the bad ones so far
 abbrev pub AreReadUpTo : ℕ → List ℕ → List ℕ → ℕ → List Bad → Type 0
 AreReadUpTo separator list rest number bad = (pieces : List (List ℕ)) × All (λ piece. All (λ byte. byte ≢ separator) piece) pieces
-    × (list ≡ ended separator pieces ++ rest) × (number ≡ 1 + length pieces) × (bad ≡ bad_pieces 1 pieces)
+    × (list ≡ each_ended separator pieces ++ rest) × (number ≡ 1 + length pieces) × (bad ≡ bad_pieces 1 pieces)
 
 one : (P : List ℕ → Type 0) (piece : List ℕ) → P piece → All P (piece ∷ [])
 one P piece is zero d less = is
@@ -60,8 +60,8 @@ pub one-more : (separator : ℕ) (list rest more : List ℕ) (number next : ℕ)
 one-more separator list rest more number next bad all piece (pieces, are, whole, counted, is) cut apart after grew = (
   pieces ++ piece ∷ [],
   All-append (λ p. All (λ byte. byte ≢ separator) p) pieces (piece ∷ []) are (one (λ p. All (λ byte. byte ≢ separator) p) piece apart),
-  whole ∙ ap (λ l. ended separator pieces ++ l) cut ∙ ap (λ l. ended separator pieces ++ l) (sym (append_assoc piece (separator ∷ []) more))
-      ∙ sym (append_assoc (ended separator pieces) (piece ++ separator ∷ []) more) ∙ ap (λ l. l ++ more) (sym (ended-more separator pieces piece)),
+  whole ∙ ap (λ l. each_ended separator pieces ++ l) cut ∙ ap (λ l. each_ended separator pieces ++ l) (sym (append_assoc piece (separator ∷ []) more))
+      ∙ sym (append_assoc (each_ended separator pieces) (piece ++ separator ∷ []) more) ∙ ap (λ l. l ++ more) (sym (each_ended-more separator pieces piece)),
   omega (arith, counted, after, length-append pieces (piece ∷ [])),
   grown pieces piece number bad all counted is grew,
 )
@@ -70,7 +70,7 @@ one-more separator list rest more number next bad all piece (pieces, are, whole,
 pub all-read : (separator : ℕ) (list rest : List ℕ) (number : ℕ) (bad : List Bad) → AreReadUpTo separator list rest number bad → length rest ≡ 0
     → (pieces : List (List ℕ)) × ArePiecesOf separator list pieces × (bad ≡ bad_pieces 1 pieces)
 all-read separator list [] number bad (pieces, are, whole, counted, is) empty =
-    (pieces, (are, inl (whole ∙ append-nil (ended separator pieces))), is)
+    (pieces, (are, inl (whole ∙ append-nil (each_ended separator pieces))), is)
 all-read separator list (b ∷ bs) number bad (pieces, are, whole, counted, is) empty = absurd (omega (arith, empty))
 
 -- the rest is the last piece

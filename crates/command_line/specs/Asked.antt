@@ -39,14 +39,14 @@ IsNaming matches naming = (keep : Bool) × (quote : Bool) × IsFlag matches (cod
     × (keep ≡ false → IsFlag matches (codes "quote") quote) × (naming ≡ naming_of keep quote)
 
 -- a fault of usage that a request of `open` or `verify` can have
-abbrev pub IsOfOpening : UsageFault → Type 0
-IsOfOpening Missing = ⊤
-IsOfOpening NoFiles = ⊤
-IsOfOpening ToAndOthers = ⊤
-IsOfOpening ToForMany = ⊤
-IsOfOpening ToNoFile = ⊤
-IsOfOpening OutOfRange = ⊤
-IsOfOpening LabelTooLong = ⊤
-IsOfOpening InputNeedsName = ⊤
-IsOfOpening InputTwice = ⊤
-IsOfOpening _ = ⊥
+abbrev pub IsOfOpenUsage : UsageFault → Type 0
+IsOfOpenUsage Missing = ⊤
+IsOfOpenUsage NoFiles = ⊤
+IsOfOpenUsage ToAndOthers = ⊤
+IsOfOpenUsage ToForMany = ⊤
+IsOfOpenUsage ToNoFile = ⊤
+IsOfOpenUsage OutOfRange = ⊤
+IsOfOpenUsage LabelTooLong = ⊤
+IsOfOpenUsage InputNeedsName = ⊤
+IsOfOpenUsage InputTwice = ⊤
+IsOfOpenUsage _ = ⊥

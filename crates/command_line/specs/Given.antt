@@ -6,18 +6,18 @@ use Rattle.clap.specs.Matches.{first_value, found_of, matched_of, one_text, raw_
 use Rattle.clap.specs.declared.parser.matches.ArgMatches.{ArgMatches}
 
 -- the number that a text writes in base ten, perhaps after a plus
-abbrev pub number_of : List ℕ → ℕ
-number_of text = digits_value 10 (without_leading_plus text)
+abbrev pub numeral_value : List ℕ → ℕ
+numeral_value text = digits_value 10 (without_leading_plus text)
 
 -- the number that was given, if any
 abbrev pub number_given : ArgMatches → List ℕ → Option ℕ
-number_given matches option = option_map number_of (one_text (found_of matches) option)
+number_given matches option = option_map numeral_value (one_text (found_of matches) option)
 
 -- a text writes a number of this range, or none was given
-abbrev pub IsWithin : ℕ → ℕ → Option (List ℕ) → Type 0
-IsWithin least most None = ⊤
-IsWithin least most (Some text) =
-    IsNumeral 10 (without_leading_plus text) × (least ≤ number_of text) × (number_of text ≤ most)
+abbrev pub IsGivenWithin : ℕ → ℕ → Option (List ℕ) → Type 0
+IsGivenWithin least most None = ⊤
+IsGivenWithin least most (Some text) =
+    IsNumeral 10 (without_leading_plus text) × (least ≤ numeral_value text) × (numeral_value text ≤ most)
 
 -- a flag is true if it was given, else false: a parse finds one of these two words, or nothing
 pub record IsFlag (matches : ArgMatches) (flag : List ℕ) (value : Bool) : Type 0 where

@@ -6,9 +6,9 @@ use Rattle.command_line.specs.declared.lists.PieceFault.{PieceFault}
 use Rattle.command_line.specs.declared.lists.PieceFault.TheVariants.{Empty, NotText}
 
 -- names one after the other, each with the separator after it
-abbrev pub ended : ℕ → List (List ℕ) → List ℕ
-ended separator [] = []
-ended separator (name ∷ names) = name ++ separator ∷ ended separator names
+abbrev pub each_ended : ℕ → List (List ℕ) → List ℕ
+each_ended separator [] = []
+each_ended separator (name ∷ names) = name ++ separator ∷ each_ended separator names
 
 -- a name that a list can have: it isn't empty and has no separator
 abbrev pub IsName : ℕ → List ℕ → Type 0
@@ -17,7 +17,7 @@ IsName separator name = (name ≢ []) × All (λ byte. byte ≢ separator) name
 -- what a text lists: names, each followed by the separator, which the last one may lack
 abbrev pub IsListOf : ℕ → List ℕ → List (List ℕ) → Type 0
 IsListOf separator text names = All (IsName separator) names
-    × ((text ≡ ended separator names) ⊎ (text ++ separator ∷ [] ≡ ended separator names))
+    × ((text ≡ each_ended separator names) ⊎ (text ++ separator ∷ [] ≡ each_ended separator names))
 
 -- what a list has, if there is one
 abbrev pub IsListed : ℕ → Option (List ℕ) → List (List ℕ) → Type 0
@@ -27,8 +27,8 @@ IsListed separator (Some text) names = IsListOf separator text names
 -- What a list has between its separators, names or not: pieces, each followed by a separator, which the last one may
 -- lack if it isn't empty.
 abbrev pub ArePiecesOf : ℕ → List ℕ → List (List ℕ) → Type 0
-ArePiecesOf separator list pieces = All (λ piece. All (λ byte. byte ≢ separator) piece) pieces × ((list ≡ ended separator pieces)
-    ⊎ ((front : List (List ℕ)) × (last : List ℕ) × (last ≢ []) × (pieces ≡ front ++ last ∷ []) × (list ≡ ended separator front ++ last)))
+ArePiecesOf separator list pieces = All (λ piece. All (λ byte. byte ≢ separator) piece) pieces × ((list ≡ each_ended separator pieces)
+    ⊎ ((front : List (List ℕ)) × (last : List ℕ) × (last ≢ []) × (pieces ≡ front ++ last ∷ []) × (list ≡ each_ended separator front ++ last)))
 
 -- the pieces of a list, if there is one
 abbrev pub ArePieces : ℕ → Option (List ℕ) → List (List ℕ) → Type 0

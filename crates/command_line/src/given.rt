@@ -1,7 +1,7 @@
 //! The numbers that were given on the command line, each in the range of its option.
 ghost use Rattle.std.specs.Prelude.{◌≡◌, ◌≢◌, ◌<◌, ◌≤◌, IfErr, IfOk, IfSome, IsOk, Some, codes, unwrap_or};
 ghost use Rattle.clap.specs.Matches.{found_of, one_text};
-ghost use Rattle.command_line.specs.Given.{IsWithin, number_given};
+ghost use Rattle.command_line.specs.Given.{IsGivenWithin, number_given};
 
 use crate::fault::UsageFault;
 use claim_core::{MAX_DEPTH, MAX_LANES, MAX_WINDOW, MAX_WORKERS};
@@ -78,9 +78,9 @@ pub(crate) fn seal_numbers(matches: &ArgMatches<'_>) -> Result<SealNumbers, Usag
         wait: number_or(matches, "wait", 0, MAX_WAIT, DEFAULT_WAIT)?,
         workers: number_or(matches, "workers", 1, MAX_WORKERS, DEFAULT_WORKERS)?,
         lanes: number_or(matches, "lanes", 1, MAX_LANES, DEFAULT_LANES)?,
-        window: number_in(matches, "window", 1, MAX_WINDOW)?,
+        window: given_number(matches, "window", 1, MAX_WINDOW)?,
         max_bytes: bytes_or(matches, "max-bytes", MAX_PLAIN, DEFAULT_MAX_BYTES)?,
-        exponent: number_in(matches, "exponent", MIN_EXPONENT, MAX_EXPONENT)?,
+        exponent: given_number(matches, "exponent", MIN_EXPONENT, MAX_EXPONENT)?,
     })
 }
 
@@ -107,7 +107,7 @@ pub(crate) fn pipe_numbers(matches: &ArgMatches<'_>) -> Result<PipeNumbers, Usag
         workers: number_or(matches, "workers", 1, MAX_WORKERS, DEFAULT_WORKERS)?,
         depth: number_or(matches, "depth", 1, MAX_DEPTH, DEFAULT_DEPTH)?,
         max_chunks: number_or(matches, "max-chunks", 1, u32::MAX, DEFAULT_MAX_CHUNKS)?,
-        exponent: number_in(matches, "exponent", MIN_EXPONENT, MAX_EXPONENT)?,
+        exponent: given_number(matches, "exponent", MIN_EXPONENT, MAX_EXPONENT)?,
     })
 }
 
@@ -119,8 +119,8 @@ pub(crate) fn open_numbers(matches: &ArgMatches<'_>, usual: u64) -> Result<OpenN
     ensures max_bytes { IfOk result (λ n. n.max_bytes
         ≡ unwrap_or (number_given matches.now (codes "max-bytes")) usual) }
     ensures few_bytes { IfOk result (λ n. n.max_bytes ≤ MAX_OPENED) }
-    ensures within { IsWithin 1 MAX_WORKERS (one_text (found_of matches.now) (codes "workers"))
-        → IsWithin 0 MAX_OPENED (one_text (found_of matches.now) (codes "max-bytes")) → IsOk result }
+    ensures within { IsGivenWithin 1 MAX_WORKERS (one_text (found_of matches.now) (codes "workers"))
+        → IsGivenWithin 0 MAX_OPENED (one_text (found_of matches.now) (codes "max-bytes")) → IsOk result }
     ensures fault { IfErr result (λ fault. fault ≡ UsageFault.OutOfRange) }
 {
     Ok(OpenNumbers {
@@ -133,7 +133,7 @@ pub(crate) fn open_numbers(matches: &ArgMatches<'_>, usual: u64) -> Result<OpenN
 pub fn device_asked(matches: &ArgMatches<'_>) -> Option<u32>
     ensures { IfSome result (λ device. number_given matches.now (codes "device") ≡ Some device) }
 {
-    match number_in(matches, "device", 0, Device::MAX) {
+    match given_number(matches, "device", 0, Device::MAX) {
         Ok(device) => device,
         Err(_) => None,
     }
@@ -145,14 +145,14 @@ fn device(matches: &ArgMatches<'_>) -> Result<Device, UsageFault>
     ensures fault { IfErr result (λ fault. fault ≢ UsageFault.LabelTooLong) }
     ensures no_journal { IfErr result (λ fault. fault ≢ UsageFault.TwoJournals) }
 {
-    let Some(number) = number_in(matches, "device", 0, Device::MAX)? else {
+    let Some(number) = given_number(matches, "device", 0, Device::MAX)? else {
         return Err(UsageFault::Missing);
     };
     Device::new(number).ok_or(UsageFault::OutOfRange)
 }
 
 // The number given for an option, if any. `OutOfRange` if it isn't in the range.
-fn number_in(
+fn given_number(
     matches: &ArgMatches<'_>,
     option: &str,
     least: u32,
@@ -160,7 +160,7 @@ fn number_in(
 ) -> Result<Option<u32>, UsageFault>
     ensures given { IfOk result (λ number. number ≡ number_given matches.now option.now) }
     ensures range { IfOk result (λ number. IfSome number (λ n. (least ≤ n) × (n ≤ most))) }
-    ensures within { IsWithin least most (one_text (found_of matches.now) option.now) → IsOk result }
+    ensures within { IsGivenWithin least most (one_text (found_of matches.now) option.now) → IsOk result }
     ensures fault { IfErr result (λ fault. fault ≡ UsageFault.OutOfRange) }
 {
     match matches.try_get_one::<u32>(option) {
@@ -181,10 +181,10 @@ fn number_or(
     requires usual { (least ≤ usual) × (usual ≤ most) }
     ensures given { IfOk result (λ number. number ≡ unwrap_or (number_given matches.now option.now) usual) }
     ensures range { IfOk result (λ number. (least ≤ number) × (number ≤ most)) }
-    ensures within { IsWithin least most (one_text (found_of matches.now) option.now) → IsOk result }
+    ensures within { IsGivenWithin least most (one_text (found_of matches.now) option.now) → IsOk result }
     ensures fault { IfErr result (λ fault. fault ≡ UsageFault.OutOfRange) }
 {
-    match number_in(matches, option, least, most) {
+    match given_number(matches, option, least, most) {
         Ok(number) => Ok(number.unwrap_or(usual)),
         Err(fault) => Err(fault),
     }
@@ -200,7 +200,7 @@ fn bytes_or(
     requires usual { usual ≤ most }
     ensures given { IfOk result (λ bytes. bytes ≡ unwrap_or (number_given matches.now option.now) usual) }
     ensures range { IfOk result (λ bytes. bytes ≤ most) }
-    ensures within { IsWithin 0 most (one_text (found_of matches.now) option.now) → IsOk result }
+    ensures within { IsGivenWithin 0 most (one_text (found_of matches.now) option.now) → IsOk result }
     ensures fault { IfErr result (λ fault. fault ≡ UsageFault.OutOfRange) }
 {
     match matches.try_get_one::<u64>(option) {

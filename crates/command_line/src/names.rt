@@ -88,7 +88,7 @@ pub fn names_in(alloc: Global, text: &str, separator: char) -> Result<Vec<&str>,
 {
     let mut names = Vec::new(alloc);
     let mut rest = text;
-    'names: while let Some((name, more)) = cut(rest, separator) {
+    'names: while let Some((name, more)) = cut_name(rest, separator) {
         if name.is_empty() {
             return Err(UsageFault::EmptyName);
         }
@@ -239,7 +239,7 @@ pub(crate) fn inputs_in(files: &[&str]) -> usize
 }
 
 // The text before the first separator, and the text after it.
-fn cut(text: &str, separator: char) -> Option<(&str, &str)>
+fn cut_name(text: &str, separator: char) -> Option<(&str, &str)>
     requires { separator < 128 }
     ensures whole { IfSome result (λ parts. text.now ≡ parts.0.now ++ separator ∷ parts.1.now) }
     ensures apart { IfSome result (λ parts. All (λ byte. byte ≢ separator) parts.0.now) }

@@ -2,8 +2,8 @@
 ghost use Rattle.std.specs.Prelude.{[], ◌<◌, ◌≤◌, ◌≡◌, ◌≢◌, ◌⊎◌, Err, IfErr, IfOk, IfSome, None, OnErr, OnOk, false};
 ghost use Rattle.std.specs.Prelude.{Some, codes, length, option_map, unwrap_or};
 ghost use Rattle.clap.specs.Matches.{first_value, found_of, one_text};
-ghost use Rattle.command_line.specs.Asked.{IsOfOpening, dashes, inputs_asked};
-ghost use Rattle.command_line.specs.Given.{AreFactsAsked, IsFlag, IsForMany, IsWithin, number_given};
+ghost use Rattle.command_line.specs.Asked.{IsOfOpenUsage, dashes, inputs_asked};
+ghost use Rattle.command_line.specs.Given.{AreFactsAsked, IsFlag, IsForMany, IsGivenWithin, number_given};
 
 use crate::fault::UsageFault;
 use crate::given::{DEFAULT_MAX_BYTES, DEFAULT_WORKERS, open_numbers};
@@ -105,10 +105,10 @@ pub fn open_request<'m, 'a>(
     ensures missing { result ≡ Err UsageFault.Missing → first_value (found_of matches.now) (codes "key") ≡ None }
     ensures no_files { result ≡ Err UsageFault.NoFiles → files.now ≡ [] }
     ensures range { result ≡ Err UsageFault.OutOfRange
-        → IsWithin 1 MAX_WORKERS (one_text (found_of matches.now) (codes "workers"))
-        → IsWithin 0 MAX_OPENED (one_text (found_of matches.now) (codes "max-bytes")) → ⊥ }
+        → IsGivenWithin 1 MAX_WORKERS (one_text (found_of matches.now) (codes "workers"))
+        → IsGivenWithin 0 MAX_OPENED (one_text (found_of matches.now) (codes "max-bytes")) → ⊥ }
     // Each of these has a clause that says when it comes. So where none of them can, the request is given.
-    ensures fault { IfErr result IsOfOpening }
+    ensures fault { IfErr result IsOfOpenUsage }
 {
     let Some(key) = matches.get_str("key") else {
         return Err(UsageFault::Missing);
@@ -134,7 +134,7 @@ pub fn open_request<'m, 'a>(
         Ok(numbers) => numbers,
         Err(fault) => return Err(fault),
     };
-    let label = match label_of(matches.get_str("label")) {
+    let label = match label_asked(matches.get_str("label")) {
         Ok(label) => label,
         Err(fault) => return Err(fault),
     };
@@ -243,7 +243,7 @@ pub fn unpipe_request<'a>(matches: &ArgMatches<'a>) -> Result<UnpipeRequest<'a>,
         Ok(numbers) => numbers,
         Err(fault) => return Err(fault),
     };
-    let label = match label_of(matches.get_str("label")) {
+    let label = match label_asked(matches.get_str("label")) {
         Ok(label) => label,
         Err(fault) => return Err(fault),
     };
@@ -260,7 +260,7 @@ pub fn unpipe_request<'a>(matches: &ArgMatches<'a>) -> Result<UnpipeRequest<'a>,
 }
 
 // The bytes of a label that was given, at most 255.
-fn label_of(text: Option<&str>) -> Result<Option<&[u8]>, UsageFault>
+fn label_asked(text: Option<&str>) -> Result<Option<&[u8]>, UsageFault>
     ensures label { IfOk result (λ label. option_map (λ b. b.now) label ≡ option_map (λ t. t.now) text.entry) }
     ensures short { IfOk result (λ label. IfSome label (λ b. length b.now ≤ MAX_LABEL)) }
     ensures too_long { IfErr result (λ fault. fault ≡ UsageFault.LabelTooLong) }

@@ -63,7 +63,7 @@ pub(crate) struct Row {
 }
 
 // A number in a range, with its value if none is given.
-fn number<'a>(arg: Arg<'a>, least: u32, most: u32, absent: &Absent) -> Arg<'a> {
+fn number_arg<'a>(arg: Arg<'a>, least: u32, most: u32, absent: &Absent) -> Arg<'a> {
     let range = i64::from(least)..=i64::from(most);
     let arg = arg.value_parser(value_parser!(u32).range(range));
     match absent {
@@ -93,7 +93,7 @@ fn valued<'a>(arg: Arg<'a>, name: &'static str, value: &'static str) -> Arg<'a> 
 }
 
 // Nothing, or one of these words.
-fn words_of<'a>(arg: Arg<'a>, words: &'static [&'static str], absent: &'static str) -> Arg<'a> {
+fn with_words<'a>(arg: Arg<'a>, words: &'static [&'static str], absent: &'static str) -> Arg<'a> {
     arg.num_args(0..=1)
         .require_equals(true)
         .value_parser(&*words)
@@ -117,7 +117,7 @@ fn arg_of<'a>(alloc: Global, row: &Row) -> Result<Arg<'a>, Error> {
         Takes::NothingWithout(other) => flag(arg, row.name).requires_arg(other)?,
         Takes::Path { is_required } => valued(arg, row.name, "F").required(*is_required),
         Takes::Name => valued(arg, row.name, "NAME"),
-        Takes::Words { words, absent } => words_of(valued(arg, row.name, "WHEN"), words, absent),
+        Takes::Words { words, absent } => with_words(valued(arg, row.name, "WHEN"), words, absent),
         Takes::Folder => valued(arg, row.name, "DIR"),
         Takes::FolderWith(other) => valued(arg, row.name, "DIR").requires_arg(other)?,
         Takes::Text => valued(arg, row.name, "TEXT"),
@@ -125,7 +125,7 @@ fn arg_of<'a>(alloc: Global, row: &Row) -> Result<Arg<'a>, Error> {
             least,
             most,
             absent,
-        } => number(valued(arg, row.name, "N"), *least, *most, absent),
+        } => number_arg(valued(arg, row.name, "N"), *least, *most, absent),
         Takes::Bytes { most, default } => bytes(valued(arg, row.name, "N"), *most, default),
     };
     Ok(arg)

@@ -2,7 +2,7 @@
 //! All other words stay, so that only the parser reports which are at fault, and how.
 ghost use Rattle.std.specs.Prelude.{◌≡◌, ◌<◌, ◌≤◌, ◌^◌, ◌==◌, OnOk, IfOk, IfSome, map, option_map, unwrap_or, string_bytes};
 ghost use Rattle.std.specs.List.{before_first, list_any};
-ghost use Rattle.command_line.specs.Words.{asks, inline_number, most_bytes, scaled, stands_for, takes_of, unit_of, word_read};
+ghost use Rattle.command_line.specs.Words.{asks, inline_number, most_bytes, scaled, stands_for, shorthand_of, unit_of, word_read};
 ghost use Rattle.command_line.specs.Words.{written_out};
 
 use claim_core::MAX_WORKERS;
@@ -11,7 +11,7 @@ use std::alloc::{AllocError, Global};
 
 /// What the value of an option may be besides a number.
 #[derive(Clone, Copy)]
-pub enum Takes {
+pub enum Shorthand {
     /// A number with a letter, and `max` for this greatest one.
     Limit(u64),
     /// `auto`.
@@ -34,13 +34,13 @@ pub fn write_out(
         return Ok(());
     };
     let most = most_bytes(command.as_str());
-    let mut before = Takes::Numbers;
+    let mut before = Shorthand::Numbers;
     'words: for i in 2..words.len() {
         let word = words[i].as_str();
         if word == "--" {
             return Ok(());
         }
-        let takes = takes_of(most, word);
+        let takes = shorthand_of(most, word);
         let read = word_read(alloc, processors, most, before, word)?;
         if let Some(text) = read {
             words[i] = text;
@@ -77,15 +77,15 @@ fn most_bytes(command: &str) -> u64
 }
 
 // What the option of this name takes.
-#[tactic(auto, unfolding(crate::specs::Words::takes_of))]
-fn takes_of(most: u64, name: &str) -> Takes
-    ensures { result ≡ takes_of most name.now }
+#[tactic(auto, unfolding(crate::specs::Words::shorthand_of))]
+fn shorthand_of(most: u64, name: &str) -> Shorthand
+    ensures { result ≡ shorthand_of most name.now }
 {
     match name {
-        "--max-bytes" => Takes::Limit(most),
-        "--max-chunks" => Takes::Limit(u32::MAX as u64),
-        "--workers" | "--lanes" => Takes::Processors,
-        _ => Takes::Numbers,
+        "--max-bytes" => Shorthand::Limit(most),
+        "--max-chunks" => Shorthand::Limit(u32::MAX as u64),
+        "--workers" | "--lanes" => Shorthand::Processors,
+        _ => Shorthand::Numbers,
     }
 }
 
@@ -94,7 +94,7 @@ fn word_read(
     alloc: Global,
     processors: usize,
     most: u64,
-    before: Takes,
+    before: Shorthand,
     word: &str,
 ) -> Result<Option<String>, AllocError>
     ensures { IfOk result (λ read. unwrap_or (option_map string_bytes read) word.now
@@ -121,7 +121,7 @@ fn inline_number(processors: usize, most: u64, word: &str) -> Option<(&str, u128
     let Some((name, value)) = word.split_once('=') else {
         return None;
     };
-    match stands_for(processors, takes_of(most, name), value) {
+    match stands_for(processors, shorthand_of(most, name), value) {
         Some(number) => Some((name, number)),
         None => None,
     }
@@ -129,13 +129,13 @@ fn inline_number(processors: usize, most: u64, word: &str) -> Option<(&str, u128
 
 // The number that a value denotes.
 #[tactic(auto, unfolding(crate::specs::Words::stands_for))]
-fn stands_for(processors: usize, takes: Takes, value: &str) -> Option<u128>
+fn stands_for(processors: usize, takes: Shorthand, value: &str) -> Option<u128>
     ensures { result ≡ stands_for processors takes value.now }
 {
     match takes {
-        Takes::Limit(most) if value == "max" => Some(u128::from(most)),
-        Takes::Limit(_) => scaled(value),
-        Takes::Processors if value == "auto" => {
+        Shorthand::Limit(most) if value == "max" => Some(u128::from(most)),
+        Shorthand::Limit(_) => scaled(value),
+        Shorthand::Processors if value == "auto" => {
             Some(processors.min(MAX_WORKERS as usize).max(1) as u128)
         }
         _ => None,

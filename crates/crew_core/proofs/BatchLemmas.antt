@@ -12,8 +12,8 @@ use Rattle.ledger_core.specs.Shared.{LedgerId, SeatView, IsSameSeat, seat_view}
 use Rattle.crew_core.specs.declared.outcome.Outcome.{Outcome}
 use Rattle.crew_core.specs.Batch.{seat_of, of_seat, issues, IsOutcome, AreOutcomes, AreAmong, AreIssued, GoOn}
 use Rattle.claim_core.specs.Claims.{times, once_below}
-use Rattle.crew_core.specs.Lanes.{BatchView, AreLanes, AreReady, IsDone, IsWorked}
-use Rattle.crew_core.specs.Places.{PlacesView, AreDrawn, AreInOrder, all_jobs, done_at, done_of}
+use Rattle.crew_core.specs.Lanes.{BatchView, AreLanes, AreReady, IsDone, IsLaneWorked}
+use Rattle.crew_core.specs.Places.{LanePlacesView, AreDrawn, AreInOrder, all_jobs, done_at, done_of}
 
 -- some seat, where the lists have none
 no_seat : BatchView → SeatView
@@ -43,7 +43,7 @@ at_front xs rest i d low = let long = length-append xs rest in slice_get-get_or 
 
 -- before the first lane starts
 pub ready : (batch : BatchView) (lanes room : ℕ) (ledger : LedgerId) (seats used rest : List SeatView)
-    (places : List PlacesView) → seats ≡ used ++ rest → length used ≡ lanes → length places ≡ lanes → batch.ledger ≡ ledger
+    (places : List LanePlacesView) → seats ≡ used ++ rest → length used ≡ lanes → length places ≡ lanes → batch.ledger ≡ ledger
     → ((i : ℕ) (seat : SeatView) → slice_get seats i ≡ Some seat → seat.ledger ≡ ledger) → length batch.jobs ≤ room
     → All (λ p. (p.done ≡ []) × (room ≤ p.room)) places → AreReady batch lanes used places
 ready batch lanes room ledger seats used rest places parts count places_count same ours few free = record {
@@ -54,16 +54,16 @@ ready batch lanes room ledger seats used rest places parts count places_count sa
   free = λ k d inside. let its = free k d inside in let more = its.1 in (its.0, omega arith);
 }
 
-module _ (batch : BatchView) (lanes : ℕ) (used used' : List SeatView) (places : List PlacesView)
+module _ (batch : BatchView) (lanes : ℕ) (used used' : List SeatView) (places : List LanePlacesView)
     (worked : AreLanes batch 0 used used' places) (count : length used ≡ lanes) where
   places_are : length places ≡ lanes
   places_are = worked.places_count ∙ count
 
-  lane_at : (i : ℕ) (d : SeatView) → i < lanes → IsWorked batch i (get_or used i d) (get_or used' i d) (done_at places i)
+  lane_at : (i : ℕ) (d : SeatView) → i < lanes → IsLaneWorked batch i (get_or used i d) (get_or used' i d) (done_at places i)
   lane_at i d below =
       let none : 0 + i ≡ i = omega arith in
       let c = count in
-      subst (λ m. IsWorked batch m (get_or used i d) (get_or used' i d) (done_at places i)) none
+      subst (λ m. IsLaneWorked batch m (get_or used i d) (get_or used' i d) (done_at places i)) none
       (worked.each i d (omega arith))
 
   pub past : (rest : List SeatView) (i : ℕ) → lanes ≤ i → slice_get (used' ++ rest) i ≡ slice_get (used ++ rest) i

@@ -5,13 +5,13 @@ use Rattle.std.proofs.lemmas.List.{get_or_append_left, get_or-append_right}
 use Rattle.std.proofs.lemmas.Bool.{cases_lt}
 use Rattle.ledger_core.specs.Shared.{SeatView}
 use Rattle.claim_core.specs.Claims.{ClaimantView, ClaimsView, joined}
-use Rattle.crew_core.specs.Lanes.{BatchView, AreLanes, IsWorked, ended}
-use Rattle.crew_core.specs.Places.{PlacesView, all_jobs, no_places}
+use Rattle.crew_core.specs.Lanes.{BatchView, AreLanes, IsLaneWorked, ended}
+use Rattle.crew_core.specs.Places.{LanePlacesView, all_jobs, no_places}
 use Rattle.crew_core.proofs.OrderLemmas.{all_jobs-append}
 
 -- lanes, and those after them
 pub lanes_joined : (batch : BatchView) (count : ℕ) (old new old' new' : List SeatView)
-    (places places' : List PlacesView) → length old ≡ count → AreLanes batch 0 old new places → AreLanes batch count old' new' places'
+    (places places' : List LanePlacesView) → length old ≡ count → AreLanes batch 0 old new places → AreLanes batch count old' new' places'
     → AreLanes batch 0 (old ++ old') (new ++ new') (places ++ places')
 lanes_joined batch count old new old' new' places places' long one other = record {
   seats_count =
@@ -32,15 +32,15 @@ lanes_joined batch count old new old' new' places places' long one other = recor
       let p = one.places_count in
       elim (cases_lt i (length old)) [
         | inl low ↦ rw (get_or_append_left old old' d i low, get_or_append_left new new' d i (omega arith))
-            (subst (λ (q : PlacesView). IsWorked batch (0 + i) (get_or old i d) (get_or new i d) q.done)
+            (subst (λ (q : LanePlacesView). IsLaneWorked batch (0 + i) (get_or old i d) (get_or new i d) q.done)
             (sym (get_or_append_left places places' no_places i (omega arith)))
             (one.each i d low))
         | inr high ↦
             let at : 0 + i ≡ count + (i - count) = omega arith in
             let olds = get_or-append_right old old' count i d long (omega arith) in
             let news = get_or-append_right new new' count i d (omega arith) (omega arith) in
-            let P : PlacesView → Type 0 =
-            λ q. IsWorked batch (count + (i - count)) (get_or old' (i - count) d) (get_or new' (i - count) d) q.done in
+            let P : LanePlacesView → Type 0 =
+            λ q. IsLaneWorked batch (count + (i - count)) (get_or old' (i - count) d) (get_or new' (i - count) d) q.done in
             rw (olds, news, at)
             (subst P
             (sym (get_or-append_right places places' count i no_places (omega arith) (omega arith)))
@@ -50,7 +50,7 @@ lanes_joined batch count old new old' new' places places' long one other = recor
 
 -- their claimants as one
 pub ended_joined : (claims : ClaimsView) (last lanes : ℕ) (all ours theirs : ClaimantView)
-    (places place : List PlacesView) → all ≡ joined ours theirs → ours ≡ ended claims last (all_jobs places) → theirs ≡ ended claims 1 (all_jobs place)
+    (places place : List LanePlacesView) → all ≡ joined ours theirs → ours ≡ ended claims last (all_jobs places) → theirs ≡ ended claims 1 (all_jobs place)
     → last + 1 ≡ lanes → all ≡ ended claims lanes (all_jobs (places ++ place))
 ended_joined claims last lanes all ours theirs places place both first second count =
     both ∙ ap (λ v. joined v theirs) first ∙ ap (joined (ended claims last (all_jobs places))) second

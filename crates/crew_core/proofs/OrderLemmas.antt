@@ -15,7 +15,7 @@ use Rattle.claim_core.proofs.Sums.{times_append, once_more}
 use Rattle.crew_core.specs.declared.outcome.Outcome.{Outcome}
 use Rattle.crew_core.specs.declared.places.Done.{Done}
 use Rattle.crew_core.specs.Batch.{seat_of, of_seat}
-use Rattle.crew_core.specs.Places.{PlacesView, Ascends, AreDrawn, AreInOrder, BeginsWith, IsFrom, all_jobs, done_at}
+use Rattle.crew_core.specs.Places.{LanePlacesView, Ascends, AreDrawn, AreInOrder, BeginsWith, IsFrom, all_jobs, done_at}
 use Rattle.crew_core.specs.Places.{done_of, jobs_of, no_places, outcomes_of}
 use Rattle.crew_core.proofs.StepLemmas.{at_push}
 
@@ -43,19 +43,19 @@ times_other x y ys other =
 
 -- the jobs of all lanes
 
-pub all_jobs-append : (ps qs : List PlacesView) → all_jobs (ps ++ qs) ≡ all_jobs ps ++ all_jobs qs
+pub all_jobs-append : (ps qs : List LanePlacesView) → all_jobs (ps ++ qs) ≡ all_jobs ps ++ all_jobs qs
 all_jobs-append [] qs = refl
 all_jobs-append (p ∷ ps) qs =
     ap (λ l. jobs_of p.done ++ l) (all_jobs-append ps qs)
     ∙ sym (append_assoc (jobs_of p.done) (all_jobs ps) (all_jobs qs))
 
-pub all_jobs-one : (ps : List PlacesView) (p : PlacesView) → length ps ≡ 1 → all_jobs (set ps 0 p) ≡ jobs_of p.done
+pub all_jobs-one : (ps : List LanePlacesView) (p : LanePlacesView) → length ps ≡ 1 → all_jobs (set ps 0 p) ≡ jobs_of p.done
 all_jobs-one [] p one = absurd (omega arith)
 all_jobs-one (q ∷ []) p one = append-nil (jobs_of p.done)
 all_jobs-one (q ∷ (r ∷ ps)) p one = absurd (omega arith)
 
 -- a job that is among them is with some lane
-some_lane : (x : ℕ) (ps : List PlacesView) → 0 < times x (all_jobs ps)
+some_lane : (x : ℕ) (ps : List LanePlacesView) → 0 < times x (all_jobs ps)
     → (lane : ℕ) × (lane < length ps) × (0 < times x (jobs_of (done_at ps lane)))
 some_lane x [] has = absurd (omega arith)
 some_lane x (p ∷ ps) has =
@@ -68,7 +68,7 @@ some_lane x (p ∷ ps) has =
           (suc there.0, omega arith, there.2)
     ]
 
-at_most : (x : ℕ) (ps : List PlacesView) (lane : ℕ) → lane < length ps
+at_most : (x : ℕ) (ps : List LanePlacesView) (lane : ℕ) → lane < length ps
     → times x (jobs_of (done_at ps lane)) ≤ times x (all_jobs ps)
 at_most x [] lane below = absurd (omega arith)
 at_most x (p ∷ ps) zero below = let both = times_append x (jobs_of p.done) (all_jobs ps) in omega arith
@@ -77,7 +77,7 @@ at_most x (p ∷ ps) (suc lane) below =
     let there = at_most x ps lane (omega arith) in
     omega arith
 
-times_set : (x : ℕ) (ps : List PlacesView) (lane : ℕ) (after : PlacesView) → lane < length ps
+times_set : (x : ℕ) (ps : List LanePlacesView) (lane : ℕ) (after : LanePlacesView) → lane < length ps
     → times x (all_jobs (set ps lane after)) + times x (jobs_of (done_at ps lane))
     ≡ times x (all_jobs ps) + times x (jobs_of after.done)
 times_set x [] lane after below = absurd (omega arith)
@@ -117,7 +117,7 @@ abbrev pub IsTaken : ℕ → List Outcome → List Done → List Done → Type 0
 IsTaken lane out all left = (taken : List Done) × (all ≡ taken ++ left) × (of_seat lane out ≡ outcomes_of taken)
 
 -- the jobs below this one are in order
-pub record IsOrdering (jobs job : ℕ) (whole left : List PlacesView) (out : List Outcome) : Type 0 where
+pub record IsOrdering (jobs job : ℕ) (whole left : List LanePlacesView) (out : List Outcome) : Type 0 where
   pub places_count : length left ≡ length whole
   pub count : length out ≡ job
   pub each : (n : ℕ) (o : Outcome) → slice_get out n ≡ Some o → IsFrom whole n o
@@ -125,7 +125,7 @@ pub record IsOrdering (jobs job : ℕ) (whole left : List PlacesView) (out : Lis
   pub ascends : (lane : ℕ) → lane < length whole → Ascends (jobs_of (done_at left lane))
   pub still : (x : ℕ) → times x (all_jobs left) + once_below x job ≡ once_below x jobs
 
-pub ordering_none : (jobs : ℕ) (whole : List PlacesView) (out : List Outcome) → out ≡ [] → AreDrawn jobs whole
+pub ordering_none : (jobs : ℕ) (whole : List LanePlacesView) (out : List Outcome) → out ≡ [] → AreDrawn jobs whole
     → IsOrdering jobs 0 whole whole out
 ordering_none jobs whole out nothing drawn = subst (IsOrdering jobs 0 whole whole) (sym nothing) record {
   places_count = refl;
@@ -137,7 +137,7 @@ ordering_none jobs whole out nothing drawn = subst (IsOrdering jobs 0 whole whol
 }
 
 -- some lane has the next job left, and has it first
-pub next_lane : (jobs job : ℕ) (whole left : List PlacesView) (out : List Outcome) → job < jobs
+pub next_lane : (jobs job : ℕ) (whole left : List LanePlacesView) (out : List Outcome) → job < jobs
     → IsOrdering jobs job whole left out → (lane : ℕ) × (lane < length left) × BeginsWith job (done_at left lane)
 next_lane jobs job whole left out inside w =
     let is = w.still job in
@@ -171,8 +171,8 @@ of_seat_other lane out o other =
     ∙ append-nil (of_seat lane out)
 
 -- one more job
-module _ (jobs job lane : ℕ) (whole left left' : List PlacesView) (out : List Outcome) (o : Outcome)
-    (after : PlacesView) (drawn : AreDrawn jobs whole) (w : IsOrdering jobs job whole left out) (below : lane < length left)
+module _ (jobs job lane : ℕ) (whole left left' : List LanePlacesView) (out : List Outcome) (o : Outcome)
+    (after : LanePlacesView) (drawn : AreDrawn jobs whole) (w : IsOrdering jobs job whole left out) (below : lane < length left)
     (is : left' ≡ set left lane after) (taken : done_at left lane ≡ done_of job o ∷ after.done) where
   inside : lane < length whole
   inside = let p = w.places_count in let b = below in omega arith
@@ -192,12 +192,12 @@ module _ (jobs job lane : ℕ) (whole left left' : List PlacesView) (out : List 
 
   left_here : done_at left' lane ≡ after.done
   left_here =
-      ap (λ (p : PlacesView). p.done)
+      ap (λ (p : LanePlacesView). p.done)
       (ap (λ l. get_or l lane no_places) is ∙ get_or-set_same left lane after no_places below)
 
   left_there : (i : ℕ) → i ≢ lane → done_at left' i ≡ done_at left i
   left_there i other =
-      ap (λ (p : PlacesView). p.done)
+      ap (λ (p : LanePlacesView). p.done)
       (ap (λ l. get_or l i no_places) is ∙ get_or-set_other left lane i after no_places other)
 
   of_here : IsTaken lane (out ++ o ∷ []) (done_at whole lane) (done_at left' lane)
@@ -250,7 +250,7 @@ module _ (jobs job lane : ℕ) (whole left left' : List PlacesView) (out : List 
   }
 
 -- all jobs are in order
-pub in_order : (jobs : ℕ) (whole left : List PlacesView) (out : List Outcome) → IsOrdering jobs jobs whole left out
+pub in_order : (jobs : ℕ) (whole left : List LanePlacesView) (out : List Outcome) → IsOrdering jobs jobs whole left out
     → AreInOrder jobs whole out
 in_order jobs whole left out w = record {
   count = w.count;

@@ -26,7 +26,7 @@ use Rattle.crew_core.specs.Batch.{seat_of, issue_of, issues, IsAt, IsFaultAt, Is
 use Rattle.claim_core.specs.Claims.{times}
 use Rattle.claim_core.proofs.Sums.{times_push}
 use Rattle.crew_core.specs.declared.places.Done.{Done}
-use Rattle.crew_core.specs.Lanes.{BatchView, IsDone, IsStep, IsWorked}
+use Rattle.crew_core.specs.Lanes.{BatchView, IsDone, IsLaneStep, IsLaneWorked}
 use Rattle.crew_core.specs.Places.{Ascends, done_of, jobs_of, outcomes_of}
 
 -- a number just granted was never settled
@@ -84,14 +84,14 @@ holds_keeps old new more spent same is none h =
     let un = h.2 in
     (h.0 ∙ sym (ap (λ t. t.range.device) same.terms), omega arith, omega arith)
 
-pub at_keeps : (key : List ℕ) (shape : ShapeView) (job : List ℕ) (lane : ℕ) (old new : SeatView) (o p : Outcome) → IsStep key shape job lane old new o → IsAt old p → IsAt new p
+pub at_keeps : (key : List ℕ) (shape : ShapeView) (job : List ℕ) (lane : ℕ) (old new : SeatView) (o p : Outcome) → IsLaneStep key shape job lane old new o → IsAt old p → IsAt new p
 at_keeps key shape job lane old new o (Sealed seat bytes spent) step at = holds_keeps old new (issues old.number (o ∷ [])) spent step.same step.mine (settles_none spent.number old.number o) at
 at_keeps key shape job lane old new o (Spoiled seat spent) step at = holds_keeps old new (issues old.number (o ∷ [])) spent step.same step.mine (settles_none spent.number old.number o) at
 at_keeps key shape job lane old new o (Unissued seat fault) step at = fault_keeps old new (issues old.number (o ∷ [])) fault step.mine at
 
 -- the step of a job that got a number
 pub step_granted : (key : List ℕ) (shape : ShapeView) (job : List ℕ) (lane : ℕ) (old new : SeatView) (n : ℕ) (o : Outcome) → IsSameSeat old new → Extends old (Granted n) new
-    → issue_of o ≡ Granted n ∷ [] → IsOutcome key shape job o → seat_of o ≡ lane → IsAt new o → IsStep key shape job lane old new o
+    → issue_of o ≡ Granted n ∷ [] → IsOutcome key shape job o → seat_of o ≡ lane → IsAt new o → IsLaneStep key shape job lane old new o
 step_granted key shape job lane old new n o same extends named outcome seat at = record {
   outcome = outcome;
   seat = seat;
@@ -118,8 +118,8 @@ at_push outcomes o x k at =
 
 -- what a lane has done before its first job
 pub worked_none : (batch : BatchView) (lane : ℕ) (seat : SeatView) (done : List Done) → done ≡ []
-    → IsWorked batch lane seat seat done
-worked_none batch lane seat done none = subst (IsWorked batch lane seat seat) (sym none) record {
+    → IsLaneWorked batch lane seat seat done
+worked_none batch lane seat done none = subst (IsLaneWorked batch lane seat seat) (sym none) record {
   each = λ k d below. absurd (omega arith);
   ascends = tt;
   mine = sym (append-nil seat.mine);
@@ -149,8 +149,8 @@ ascends_push (x ∷ xs) n up below =
 
 -- a lane has done one more job
 pub worked_next : (batch : BatchView) (lane job : ℕ) (old was new : SeatView) (done : List Done) (o : Outcome)
-    → IsWorked batch lane old was done → IsStep batch.key batch.shape (get_or batch.jobs job []) lane was new o
-    → ((x : ℕ) → 0 < times x (jobs_of done) → x < job) → IsWorked batch lane old new (done ++ done_of job o ∷ [])
+    → IsLaneWorked batch lane old was done → IsLaneStep batch.key batch.shape (get_or batch.jobs job []) lane was new o
+    → ((x : ℕ) → 0 < times x (jobs_of done) → x < job) → IsLaneWorked batch lane old new (done ++ done_of job o ∷ [])
 worked_next batch lane job old was new done o worked step last = record {
   each =
       let before : All (IsDone batch lane new) done = λ k d below.

@@ -9,7 +9,7 @@ use Rattle.crew_core.specs.declared.TheConstants.{MAX_JOBS}
 use Rattle.crew_core.specs.declared.outcome.Outcome.{Outcome}
 use Rattle.crew_core.specs.declared.places.Done.{Done}
 use Rattle.crew_core.specs.Batch.{seat_of, issues, IsOutcome, IsAt}
-use Rattle.crew_core.specs.Places.{PlacesView, Ascends, done_at, jobs_of, outcomes_of}
+use Rattle.crew_core.specs.Places.{LanePlacesView, Ascends, done_at, jobs_of, outcomes_of}
 
 -- what all lanes share: the claims are on the numbers of the jobs, and the lanes are their workers
 pub record BatchView : Type 0 where
@@ -38,7 +38,7 @@ abbrev pub ended : ClaimsView → ℕ → List ℕ → ClaimantView
 ended claims lanes drawn = claimant_of claims lanes drawn lanes
 
 -- what one job does to its lane's seat
-pub record IsStep (key : List ℕ) (shape : ShapeView) (job : List ℕ) (lane : ℕ)
+pub record IsLaneStep (key : List ℕ) (shape : ShapeView) (job : List ℕ) (lane : ℕ)
     (old new : SeatView) (o : Outcome) : Type 0 where
   pub outcome : IsOutcome key shape job o
   pub seat : seat_of o ≡ lane
@@ -54,7 +54,7 @@ pub record IsDone (batch : BatchView) (lane : ℕ) (now : SeatView) (d : Done) :
   pub stands : IsAt now d.outcome
 
 -- what a lane has done so far, in the order of the jobs' numbers, and its seat by then
-pub record IsWorked (batch : BatchView) (lane : ℕ) (old new : SeatView) (done : List Done) : Type 0 where
+pub record IsLaneWorked (batch : BatchView) (lane : ℕ) (old new : SeatView) (done : List Done) : Type 0 where
   pub each : All (IsDone batch lane new) done
   pub ascends : Ascends (jobs_of done)
   pub mine : new.mine ≡ old.mine ++ issues old.number (outcomes_of done)
@@ -62,19 +62,19 @@ pub record IsWorked (batch : BatchView) (lane : ℕ) (old new : SeatView) (done 
   pub same : IsSameSeat old new
 
 -- the places of a lane before its first job: there is room for all jobs
-abbrev pub AreFree : BatchView → PlacesView → Type 0
+abbrev pub AreFree : BatchView → LanePlacesView → Type 0
 AreFree batch places = (places.done ≡ []) × (length batch.jobs ≤ places.room)
 
 -- `count` seats with their places, before the first lane starts
-pub record AreReady (batch : BatchView) (count : ℕ) (seats : List SeatView) (places : List PlacesView) : Type 0 where
+pub record AreReady (batch : BatchView) (count : ℕ) (seats : List SeatView) (places : List LanePlacesView) : Type 0 where
   pub seats_count : length seats ≡ count
   pub places_count : length places ≡ count
   pub ours : All (λ seat. seat.ledger ≡ batch.ledger) seats
   pub free : All (AreFree batch) places
 
 -- the lanes from `from` on, each with the seat and the places at its number less `from`
-pub record AreLanes (batch : BatchView) (from : ℕ) (old new : List SeatView) (places : List PlacesView) : Type 0 where
+pub record AreLanes (batch : BatchView) (from : ℕ) (old new : List SeatView) (places : List LanePlacesView) : Type 0 where
   pub seats_count : length new ≡ length old
   pub places_count : length places ≡ length old
   pub each : (i : ℕ) (d : SeatView) → i < length old
-      → IsWorked batch (from + i) (slice_index_or old i d) (slice_index_or new i d) (done_at places i)
+      → IsLaneWorked batch (from + i) (slice_index_or old i d) (slice_index_or new i d) (done_at places i)

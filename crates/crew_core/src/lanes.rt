@@ -8,12 +8,12 @@ ghost use Rattle.container_core.specs.Container.{container};
 ghost use Rattle.journal_core.specs.declared.entry.Way.TheVariants.{Sealed, Void};
 ghost use Rattle.ledger_core.specs.Range.{prefix_of};
 ghost use Rattle.crew_core.specs.Spending.{spent_as};
-ghost use Rattle.crew_core.specs.Lanes.{ended, AreFree, AreLanes, AreReady, IsStep, IsWorked};
+ghost use Rattle.crew_core.specs.Lanes.{ended, AreFree, AreLanes, AreReady, IsLaneStep, IsLaneWorked};
 ghost use Rattle.crew_core.specs.Places.{all_jobs, jobs_of};
 
 use crate::MAX_JOBS;
 use crate::outcome::Outcome;
-use crate::places::{Done, Places};
+use crate::places::{Done, LanePlaces};
 use claim_core::{Claimant, Claims, Gate, MAX_LANES};
 use container_core::{Key, MAX_PLAIN, Shape, seal};
 use ledger_core::{Grant, Ledger, Seat, Spent};
@@ -129,7 +129,7 @@ impl<'a> Batch<'a> {
     fn seal_job(&self, alloc: Global, lane: u32, job: u32, seat: &mut Seat) -> Outcome
         requires job { job < length self.now.jobs }
         requires ours { seat.old.ledger ≡ self.now.ledger }
-        ensures { IsStep self.now.key self.now.shape (slice_index_or self.now.jobs job [])
+        ensures { IsLaneStep self.now.key self.now.shape (slice_index_or self.now.jobs job [])
             lane seat.old seat.new result }
     {
         sealed_job(
@@ -177,7 +177,7 @@ fn sealed_job(
 ) -> Outcome
     requires ours { seat.old.ledger ≡ ledger.now.ledger }
     requires short { length job.now ≤ MAX_PLAIN }
-    ensures { IsStep key.now shape.now job.now lane seat.old seat.new result }
+    ensures { IsLaneStep key.now shape.now job.now lane seat.old seat.new result }
 {
     let grant = match ledger.issue(seat) {
         Ok(grant) => grant,
@@ -201,13 +201,13 @@ fn work_lane<G: Gate>(
     lane: u32,
     gate: &G,
     seat: &mut Seat,
-    places: &mut Places,
+    places: &mut LanePlaces,
     claimant: &mut Claimant,
 )
     requires ours { seat.old.ledger ≡ batch.now.ledger }
     requires free { AreFree batch.now places.old }
     requires fresh { claimant.old ≡ newcomer batch.now.claims 1 }
-    ensures worked { IsWorked batch.now lane seat.old seat.new places.new.done }
+    ensures worked { IsLaneWorked batch.now lane seat.old seat.new places.new.done }
     ensures drawn { claimant.new ≡ ended batch.now.claims 1 (jobs_of places.new.done) }
 {
     while let Some(job) = batch.draw(claimant) {
@@ -224,7 +224,7 @@ fn one_lane<G: Gate>(
     lane: u32,
     gate: &G,
     seats: &mut [Seat],
-    places: &mut [Places],
+    places: &mut [LanePlaces],
     claimant: &mut Claimant,
 )
     requires ready { AreReady batch.now 1 seats.old places.old }
@@ -246,7 +246,7 @@ pub(crate) fn work_lanes<R: Threads + Sync, G: Gate + Sync>(
     upto: u32,
     gate: &G,
     seats: &mut [Seat],
-    places: &mut [Places],
+    places: &mut [LanePlaces],
     claimant: &mut Claimant,
 )
     requires upto { 0 < upto }
@@ -277,10 +277,10 @@ fn work_both<R: Threads + Sync, G: Gate + Sync>(
     last: u32,
     gate: &G,
     seats: &mut [Seat],
-    places: &mut [Places],
+    places: &mut [LanePlaces],
     claimant: &mut Claimant,
     seat: &mut [Seat],
-    place: &mut [Places],
+    place: &mut [LanePlaces],
 ) -> Claimant
     requires last { 0 < last }
     requires before { AreReady batch.now last seats.old places.old }

@@ -20,26 +20,26 @@ pub(crate) struct Done {
 
 /// What one lane has done, in the order in which it did it, in room that was made beforehand.
 #[derive(Drop)]
-pub(crate) struct Places {
+pub(crate) struct LanePlaces {
     done: VecDeque<Done>,
 }
 
-impl Model for Places {
+impl Model for LanePlaces {
     ghost use Rattle.std.specs.VecDeque.{deque_capacity};
-    ghost use Rattle.crew_core.specs.Places.{PlacesView};
+    ghost use Rattle.crew_core.specs.Places.{LanePlacesView};
 
-    ghost Value = { PlacesView };
+    ghost Value = { LanePlacesView };
 
     ghost view = { λ p. record { done = p.done.items; room = deque_capacity p.done } };
 }
 
-impl Places {
+impl LanePlaces {
     // Makes room for `room` jobs.
-    fn new(alloc: Global, room: usize) -> Result<Places, AllocError>
+    fn new(alloc: Global, room: usize) -> Result<LanePlaces, AllocError>
         ensures { IfOk result (λ places. (places.done ≡ []) × (room ≤ places.room)) }
     {
         let done = VecDeque::with_capacity(alloc, room)?;
-        Ok(Places { done })
+        Ok(LanePlaces { done })
     }
 
     /// Adds a job that is done, in room that is there.
@@ -73,19 +73,23 @@ impl Places {
 }
 
 /// Makes places for each lane, with room for `room` jobs.
-pub(crate) fn all_places(alloc: Global, room: usize, lanes: u32) -> Result<Vec<Places>, AllocError>
+pub(crate) fn all_places(
+    alloc: Global,
+    room: usize,
+    lanes: u32,
+) -> Result<Vec<LanePlaces>, AllocError>
     ensures { IfOk result (λ all. (vec_len all ≡ lanes)
         × All (λ places. (places.done ≡ []) × (room ≤ places.room)) all.items) }
 {
     let mut all = Vec::with_capacity(alloc, lanes as usize)?;
     for _ in 0..lanes {
-        all.push(Places::new(alloc, room)?)?;
+        all.push(LanePlaces::new(alloc, room)?)?;
     }
     Ok(all)
 }
 
 // The lane whose first job left is this one.
-fn lane_with(places: &[Places], job: u32) -> usize
+fn lane_with(places: &[LanePlaces], job: u32) -> usize
     requires { (lane : ℕ) × (lane < length places.now) × BeginsWith job (done_at places.now lane) }
     ensures below { result < length places.now }
     ensures first { BeginsWith job (done_at places.now result) }
@@ -99,7 +103,7 @@ fn lane_with(places: &[Places], job: u32) -> usize
 }
 
 /// Puts the outcomes of all lanes in the order of their jobs, into room that is there.
-pub(crate) fn put_in_order(outcomes: &mut Vec<Outcome>, places: &mut [Places], jobs: u32)
+pub(crate) fn put_in_order(outcomes: &mut Vec<Outcome>, places: &mut [LanePlaces], jobs: u32)
     requires room { (vec_len outcomes.old ≡ 0) × (jobs ≤ vec_capacity outcomes.old) }
     requires drawn { AreDrawn jobs places.old }
     ensures { AreInOrder jobs places.old outcomes.new.items }

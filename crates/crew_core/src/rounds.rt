@@ -70,7 +70,7 @@ fn split_sealed(size: usize, count: u32, plain: u64, rest: &[u8]) -> (&[u8], &[u
 }
 
 // The round of some whole chunks, none of which is the last of all.
-fn full_round<'a>(
+fn whole_round<'a>(
     task: Task,
     key: &'a Key,
     header: &'a Header,
@@ -94,12 +94,12 @@ fn full_round<'a>(
 
 // A crew, and the places of a round.
 #[derive(Drop)]
-pub(crate) struct Rooms {
+pub(crate) struct RoundRooms {
     crew: Crew,
     places: Places,
 }
 
-impl Rooms {
+impl RoundRooms {
     // Makes the room for a body of `chunks` chunks of `size` bytes, for no more workers than a round has pieces. Fails
     // with `AllocError` where memory was refused.
     pub(crate) fn new(
@@ -108,7 +108,7 @@ impl Rooms {
         size: usize,
         chunks: u32,
         workers: u32,
-    ) -> Result<Rooms, AllocError>
+    ) -> Result<RoundRooms, AllocError>
         requires size { (4096 ≤ size) × (size ≤ most_chunk) }
         requires chunks { 0 < chunks }
         requires workers { (0 < workers) × (workers ≤ MAX_WORKERS) }
@@ -123,7 +123,7 @@ impl Rooms {
         let mut crew = Crew::new(alloc, workers.min(pieces), pieces, room)?;
         crew.reserve(alloc, chunks)?;
         let places = Places::new(alloc, pieces, room)?;
-        Ok(Rooms { crew, places })
+        Ok(RoundRooms { crew, places })
     }
 }
 
@@ -140,11 +140,11 @@ fn append_pieces(out: &mut Vec<u8>, places: &Places)
 }
 
 // Makes a round, and puts its pieces on their places. Meanwhile those of the previous round are appended from there.
-fn make_round<R: Threads + Sync, G: Gate + Sync>(
+fn make_and_append<R: Threads + Sync, G: Gate + Sync>(
     rt: &R,
     alloc: Global,
     round: &Round,
-    rooms: &mut Rooms,
+    rooms: &mut RoundRooms,
     out: &mut Vec<u8>,
     gate: &G,
 )
@@ -156,7 +156,7 @@ fn make_round<R: Threads + Sync, G: Gate + Sync>(
     ensures ready { (task : Task) (size pieces : ℕ) → CanMake task size pieces rooms.old.crew rooms.old.places
         → CanMake task size pieces rooms.new.crew rooms.new.places }
 {
-    let Rooms { crew, places } = rooms;
+    let RoundRooms { crew, places } = rooms;
     let waiting = &*places;
     let mut chore = ||
         requires { vec_len out.now + length (joined waiting.now.values) ≤ vec_capacity out.now }
@@ -177,7 +177,7 @@ pub(crate) fn seal_rounds<R: Threads + Sync, G: Gate + Sync>(
     first: u32,
     last: bool,
     plain: &[u8],
-    mut rooms: Rooms,
+    mut rooms: RoundRooms,
     out: &mut Vec<u8>,
     gate: &G,
 )
@@ -203,20 +203,20 @@ pub(crate) fn seal_rounds<R: Threads + Sync, G: Gate + Sync>(
     let mut rest = plain;
     'rounds: while rest.len() > step {
         let (bytes, more) = split_plain(size, count, rest);
-        let round = full_round(Task::Sealing, key, header, number, count, bytes);
-        make_round(rt, alloc, &round, &mut rooms, out, gate);
+        let round = whole_round(Task::Sealing, key, header, number, count, bytes);
+        make_and_append(rt, alloc, &round, &mut rooms, out, gate);
         number += count;
         rest = more;
     }
     let cut = Cut::of(header, rest.len() as u64);
     let round = Round::new(Task::Sealing, key, header, number, last, cut, rest);
-    make_round(rt, alloc, &round, &mut rooms, out, gate);
+    make_and_append(rt, alloc, &round, &mut rooms, out, gate);
     append_pieces(out, &rooms.places);
 }
 
 // Whether all pieces of a round of an opening check, else the number of the first that doesn't. The round's first piece
 // has the number `first`.
-fn checked(places: &Places, first: u32) -> Result<(), u32>
+fn all_checked(places: &Places, first: u32) -> Result<(), u32>
     requires numbers { first + length places.now.values ≤ 2 ^ 32 }
     ensures ok { OnOk result (named first (answer places.now.values) ≡ Ok (joined places.now.values)) }
     ensures err { IfErr result (λ chunk. named first (answer places.now.values) ≡ Err (Forged chunk)) }
@@ -230,14 +230,14 @@ fn checked(places: &Places, first: u32) -> Result<(), u32>
 
 // Appends the plaintext of the sealed chunks of a body with this cut, numbered from 0 on. Returns the number of the
 // first that doesn't check, if there is one. There is room for the plaintext.
-pub(crate) fn open_rounds<R: Threads + Sync, G: Gate + Sync>(
+pub(crate) fn open_in_rounds<R: Threads + Sync, G: Gate + Sync>(
     rt: &R,
     alloc: Global,
     key: &Key,
     header: &Header,
     cut: Cut,
     body: &[u8],
-    mut rooms: Rooms,
+    mut rooms: RoundRooms,
     out: &mut Vec<u8>,
     gate: &G,
 ) -> Result<(), u32>
@@ -267,9 +267,9 @@ pub(crate) fn open_rounds<R: Threads + Sync, G: Gate + Sync>(
     let mut rest = body;
     'rounds: while rest.len() > sealed {
         let (bytes, more) = split_sealed(size, count, plain, rest);
-        let round = full_round(Task::Opening, key, header, number, count, bytes);
-        make_round(rt, alloc, &round, &mut rooms, out, gate);
-        match checked(&rooms.places, number) {
+        let round = whole_round(Task::Opening, key, header, number, count, bytes);
+        make_and_append(rt, alloc, &round, &mut rooms, out, gate);
+        match all_checked(&rooms.places, number) {
             Ok(()) => {}
             Err(chunk) => return Err(chunk),
         }
@@ -279,8 +279,8 @@ pub(crate) fn open_rounds<R: Threads + Sync, G: Gate + Sync>(
     }
     let cut = Cut::of(header, plain);
     let round = Round::new(Task::Opening, key, header, number, true, cut, rest);
-    make_round(rt, alloc, &round, &mut rooms, out, gate);
-    match checked(&rooms.places, number) {
+    make_and_append(rt, alloc, &round, &mut rooms, out, gate);
+    match all_checked(&rooms.places, number) {
         Ok(()) => {}
         Err(chunk) => return Err(chunk),
     }

@@ -10,7 +10,7 @@ ghost use Rattle.crew_core.specs.Spending.{spent_as};
 ghost use Rattle.journal_core.specs.declared.entry.Way.TheVariants.{Sealed, Void};
 ghost use Rattle.ledger_core.specs.Range.{prefix_of};
 
-use crate::rounds::{Rooms, open_rounds, seal_rounds};
+use crate::rounds::{RoundRooms, open_in_rounds, seal_rounds};
 use claim_core::{Gate, MAX_WINDOW, MAX_WORKERS};
 use container_core::laws::{
     chunks_by_number, headers_name_their_shape, opening_faults, rounds_of_a_stream, rounds_open,
@@ -45,7 +45,7 @@ fn sealed_behind<R: Threads + Sync, G: Gate + Sync>(
 {
     let bytes = plain.len() as u64;
     let chunks = Cut::of(header, bytes).count();
-    let rooms = Rooms::new(alloc, Task::Sealing, header.chunk(), chunks, workers)?;
+    let rooms = RoundRooms::new(alloc, Task::Sealing, header.chunk(), chunks, workers)?;
     let behind = plain.len() + TAG * chunks as usize;
     let mut out = Vec::with_capacity(alloc, front.len() + behind)?;
     match out.extend_from_slice(front) {
@@ -183,13 +183,14 @@ pub fn open_whole<R: Threads + Sync, G: Gate + Sync>(
         Err(fault) => return Err(fault),
     };
     let (_, body) = container.split_at(header.bytes().len());
-    let Ok(rooms) = Rooms::new(alloc, Task::Opening, header.chunk(), cut.count(), workers) else {
+    let Ok(rooms) = RoundRooms::new(alloc, Task::Opening, header.chunk(), cut.count(), workers)
+    else {
         return Err(OpenFault::OutOfMemory);
     };
     let Ok(mut out) = Vec::with_capacity(alloc, cut.plain() as usize) else {
         return Err(OpenFault::OutOfMemory);
     };
-    match open_rounds(rt, alloc, key, &header, cut, body, rooms, &mut out, gate) {
+    match open_in_rounds(rt, alloc, key, &header, cut, body, rooms, &mut out, gate) {
         Ok(()) => Ok(out),
         Err(chunk) => Err(OpenFault::Forged { chunk }),
     }

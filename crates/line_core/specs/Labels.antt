@@ -16,13 +16,13 @@ abbrev pub is_escape : ℕ → ℕ → Bool
 is_escape first second = first == 92 && second == 120
 
 -- the bytes of a label that a line shows like this: `\xHH` is the byte of these digits, and each other byte is itself
-unfoldable pub label_of : List ℕ → List ℕ
-label_of [] = []
-label_of (a ∷ []) = a ∷ []
-label_of (a ∷ b ∷ []) = a ∷ b ∷ []
-label_of (a ∷ b ∷ c ∷ []) = a ∷ b ∷ c ∷ []
-label_of (a ∷ b ∷ c ∷ d ∷ rest) =
-    if is_escape a b then (hex_value c * 16 + hex_value d) ∷ label_of rest else a ∷ label_of (b ∷ c ∷ d ∷ rest)
+unfoldable pub read_label : List ℕ → List ℕ
+read_label [] = []
+read_label (a ∷ []) = a ∷ []
+read_label (a ∷ b ∷ []) = a ∷ b ∷ []
+read_label (a ∷ b ∷ c ∷ []) = a ∷ b ∷ c ∷ []
+read_label (a ∷ b ∷ c ∷ d ∷ rest) =
+    if is_escape a b then (hex_value c * 16 + hex_value d) ∷ read_label rest else a ∷ read_label (b ∷ c ∷ d ∷ rest)
 
 -- the two digits of a byte
 unfoldable pub hex_digits : ℕ → List ℕ
@@ -34,8 +34,8 @@ hex_member label = codes ",\"label_hex\":\"" ++ flat_map hex_digits label ++ cod
 
 -- the member of a label: a text, if it is UTF-8, and else digits
 pub record HasLabel (shown member : List ℕ) : Type 0 where
-  pub text : IsUtf8 (label_of shown) → member ≡ text_member (codes "label") (label_of shown)
-  pub digits : ¬ IsUtf8 (label_of shown) → member ≡ hex_member (label_of shown)
+  pub text : IsUtf8 (read_label shown) → member ≡ text_member (codes "label") (read_label shown)
+  pub digits : ¬ IsUtf8 (read_label shown) → member ≡ hex_member (read_label shown)
 
 -- the same, if there is a label
 abbrev pub HasSomeLabel : Option (Bor (List ℕ)) → List ℕ → Type 0

@@ -7,7 +7,7 @@ use Rattle.line_core.specs.Json.{number_member, text_member}
 use Rattle.line_core.specs.Objects.{head}
 use Rattle.line_core.specs.declared.listed.Finding.{Finding}
 use Rattle.line_core.specs.declared.listed.Listed.{Listed}
-use Rattle.line_core.specs.declared.listed.Output.{Output}
+use Rattle.line_core.specs.declared.listed.ListedOutput.{ListedOutput}
 use Rattle.line_core.specs.declared.listed.What.{What}
 use Rattle.line_core.specs.declared.listed.What.TheVariants.{Missing, OtherNumber, NotListed}
 
@@ -37,10 +37,10 @@ pub record Listing : Type 0 where
   pub bytes : ℕ
   pub is_met : Bool
 
-abbrev pub listing : String Global × Output → Listing
+abbrev pub listing : String Global × ListedOutput → Listing
 listing e = record { name = string_bytes e.0; number = e.1.number; bytes = e.1.bytes; is_met = e.1.is_met }
 
-abbrev pub listings : List (String Global × Output) → List Listing
+abbrev pub listings : List (String Global × ListedOutput) → List Listing
 listings es = map listing es
 
 -- the outputs, in the order of their names

@@ -3,7 +3,7 @@ use Rattle.std.specs.Prelude.{◌≡◌, ◌≢◌, ℕ, List, [], ◌++◌, Opt
 use Rattle.std.specs.Borrow.{Bor}
 use Rattle.std.specs.Char.{is_ascii_digit}
 use Rattle.std.specs.List.{list_all}
-use Rattle.line_core.specs.declared.message.Facts.{Facts}
+use Rattle.line_core.specs.declared.message.PrintedFacts.{PrintedFacts}
 use Rattle.line_core.specs.declared.message.Message.{Message}
 use Rattle.line_core.specs.declared.message.Message.TheVariants.{Sealed, Kept, Opened, Good, Shown, Failed, Held, Legal}
 use Rattle.line_core.specs.declared.message.Message.TheVariants.{Malformed, Illegal, Unchecked}
@@ -14,20 +14,20 @@ abbrev pub AreDigits : List ℕ → Type 0
 AreDigits text = (text ≢ []) × (list_all is_ascii_digit text ≡ true)
 
 -- a label, if there is one
-abbrev pub label_text : Option (Bor (List ℕ)) → List ℕ
-label_text None = []
-label_text (Some label) = codes " label \"" ++ label.now ++ codes "\""
+abbrev pub printed_label : Option (Bor (List ℕ)) → List ℕ
+printed_label None = []
+printed_label (Some label) = codes " label \"" ++ label.now ++ codes "\""
 
 -- the facts, from the version on
-abbrev pub facts_text : Facts → List ℕ
-facts_text facts =
+abbrev pub printed_facts : PrintedFacts → List ℕ
+printed_facts facts =
     facts.version.now ++ codes " chunk " ++ facts.chunk.now ++ codes " device " ++ facts.device.now ++ codes " file "
-    ++ facts.number.now ++ label_text facts.label
+    ++ facts.number.now ++ printed_label facts.label
 
 -- how many bytes, or a question mark
-abbrev pub bytes_text : Option (Bor (List ℕ)) → List ℕ
-bytes_text None = codes "?"
-bytes_text (Some bytes) = bytes.now
+abbrev pub printed_bytes : Option (Bor (List ℕ)) → List ℕ
+printed_bytes None = codes "?"
+printed_bytes (Some bytes) = bytes.now
 
 -- a line, without the line feed at its end
 abbrev pub message_text : Message → List ℕ
@@ -37,7 +37,7 @@ message_text (Kept name) = codes "kept " ++ name.now
 message_text (Opened name bytes) = codes "opened " ++ name.now ++ codes " bytes " ++ bytes.now
 message_text (Good name bytes) = codes "good " ++ name.now ++ codes " bytes " ++ bytes.now
 message_text (Shown name bytes facts) =
-    codes "good " ++ name.now ++ codes " bytes " ++ bytes.now ++ codes "\n  version " ++ facts_text facts
+    codes "good " ++ name.now ++ codes " bytes " ++ bytes.now ++ codes "\n  version " ++ printed_facts facts
 message_text (Failed name fault) = codes "failed " ++ name.now ++ codes ": " ++ fault.now
 message_text (Held key device ranges given left) =
     codes "key " ++ key.now ++ codes " device " ++ device.now ++ codes " ranges " ++ ranges.now ++ codes " given "
@@ -50,7 +50,7 @@ message_text (Illegal line) = codes "illegal line " ++ line.now
 message_text (Unchecked name key bytes facts) =
     codes "unchecked " ++ name.now ++ codes " version " ++ facts.version.now ++ codes " chunk " ++ facts.chunk.now
     ++ codes " key " ++ key.now ++ codes " device " ++ facts.device.now ++ codes " file " ++ facts.number.now
-    ++ codes " bytes " ++ bytes_text bytes ++ label_text facts.label
+    ++ codes " bytes " ++ printed_bytes bytes ++ printed_label facts.label
 message_text (Unused key) = codes "key " ++ key.now ++ codes " no ranges"
 message_text (Older name) = codes "ledger: older than " ++ name.now
 message_text (NotSealed name) = codes "not sealed " ++ name.now

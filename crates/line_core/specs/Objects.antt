@@ -1,7 +1,7 @@
 -- Lines as JSON objects, each ended by a line feed.
 use Rattle.std.specs.Prelude.{◌≡◌, ℕ, List, [], ◌++◌, Option, Some, None, codes}
 use Rattle.std.specs.Borrow.{Bor}
-use Rattle.line_core.specs.declared.message.Facts.{Facts}
+use Rattle.line_core.specs.declared.message.PrintedFacts.{PrintedFacts}
 use Rattle.line_core.specs.declared.message.Message.{Message}
 use Rattle.line_core.specs.declared.message.Message.TheVariants.{Sealed, Kept, Opened, Good, Shown, Failed, Held, Legal}
 use Rattle.line_core.specs.declared.message.Message.TheVariants.{Malformed, Illegal, Unchecked}
@@ -58,26 +58,26 @@ some_number name None = []
 some_number name (Some digits) = number_member name digits.now
 
 -- the bytes and the facts of a container, but for its label
-unfoldable pub facts_members : List ℕ → Facts → List ℕ
+unfoldable pub facts_members : List ℕ → PrintedFacts → List ℕ
 facts_members bytes facts = number_member (codes "bytes") bytes ++ number_member (codes "version") facts.version.now
     ++ number_member (codes "chunk") facts.chunk.now ++ number_member (codes "device") facts.device.now
     ++ number_member (codes "number") facts.number.now
 
 -- and with a label, if there is one
-pub record HasFacts (bytes : List ℕ) (facts : Facts) (members : List ℕ) : Type 0 where
+pub record HasFacts (bytes : List ℕ) (facts : PrintedFacts) (members : List ℕ) : Type 0 where
   pub label : List ℕ
   pub labelled : HasSomeLabel facts.label label
   pub whole : members ≡ facts_members bytes facts ++ label
 
 -- what a header says, but for its label
-unfoldable pub header_members : List ℕ → Option (Bor (List ℕ)) → Facts → List ℕ
+unfoldable pub header_members : List ℕ → Option (Bor (List ℕ)) → PrintedFacts → List ℕ
 header_members key bytes facts = number_member (codes "version") facts.version.now
     ++ number_member (codes "chunk") facts.chunk.now ++ text_member (codes "key") key
     ++ number_member (codes "device") facts.device.now ++ number_member (codes "number") facts.number.now
     ++ some_number (codes "bytes") bytes
 
 -- and with a label, if there is one
-pub record HasHeader (key : List ℕ) (bytes : Option (Bor (List ℕ))) (facts : Facts) (members : List ℕ) : Type 0 where
+pub record HasHeaderMembers (key : List ℕ) (bytes : Option (Bor (List ℕ))) (facts : PrintedFacts) (members : List ℕ) : Type 0 where
   pub label : List ℕ
   pub labelled : HasSomeLabel facts.label label
   pub whole : members ≡ header_members key bytes facts ++ label
@@ -103,7 +103,7 @@ HasNumbers (Legal granted sealed void «open» refused) by members =
     HasTally granted.now sealed.now void.now «open».now refused.now members
 HasNumbers (Malformed line) by members = members ≡ number_member (codes "line") line.now
 HasNumbers (Illegal line) by members = members ≡ number_member (codes "line") line.now
-HasNumbers (Unchecked name key bytes facts) by members = HasHeader key.now bytes facts members
+HasNumbers (Unchecked name key bytes facts) by members = HasHeaderMembers key.now bytes facts members
 HasNumbers (Unused key) by members = members ≡ number_member (codes "ranges") (codes "0")
     ++ number_member (codes "given") (codes "0")
 HasNumbers (Older name) by members = members ≡ []

@@ -40,13 +40,13 @@ prints Audit (Missing number) = true
 prints _ _ = false
 
 -- a number of 64 bits in base ten, perhaps after a plus
-abbrev pub is_number : List ℕ → Bool
-is_number text = nat_lt 0 (length (without_leading_plus text))
+abbrev pub is_count : List ℕ → Bool
+is_count text = nat_lt 0 (length (without_leading_plus text))
     && (all_ascii_digits (without_leading_plus text) && nat_lt (digits_value 10 (without_leading_plus text)) (2 ^ 64))
 
 -- the number that these digits are, or 2^64 - 1, if it is greater
 unfoldable pub value_of : List ℕ → ℕ
-value_of text = if is_number text then digits_value 10 (without_leading_plus text) else 2 ^ 64 - 1
+value_of text = if is_count text then digits_value 10 (without_leading_plus text) else 2 ^ 64 - 1
 
 -- a sum that stops at 2^64 - 1
 abbrev pub plus : ℕ → ℕ → ℕ
@@ -112,10 +112,10 @@ pub record Count : Type 0 where
 abbrev pub count_in : Bor (List ℕ) × Bool × ℕ → Count
 count_in c = record { name = c.0.now; is_had = c.1; value = c.2 }
 
-abbrev pub seals : Command → Bool
-seals Seal = true
-seals Pipe = true
-seals _ = false
+abbrev pub seals_files : Command → Bool
+seals_files Seal = true
+seals_files Pipe = true
+seals_files _ = false
 
 abbrev pub opens : Command → Bool
 opens Open = true
@@ -149,7 +149,7 @@ count name is_had value = record { name = name; is_had = is_had; value = value }
 -- the counts, in the order of the last line; some only where something is compared
 unfoldable pub counts_of : Command → Bool → Totals → List Count
 counts_of command compared t =
-    count (codes "sealed") (seals command) t.sealed
+    count (codes "sealed") (seals_files command) t.sealed
     ∷ count (codes "opened") (opens command) t.opened
     ∷ count (codes "unchecked") (shows command) t.unchecked
     ∷ count (codes "good") (verifies command) t.good

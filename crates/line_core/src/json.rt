@@ -31,8 +31,8 @@ fn push_escaped(to: &mut Vec<u8>, byte: u8) -> Result<(), AllocError>
         to.push(byte)?;
     } else if byte < 32 {
         to.extend_from_slice(b"\\u00")?;
-        to.push(hex_digit(byte / 16))?;
-        to.push(hex_digit(byte % 16))?;
+        to.push(hex_glyph(byte / 16))?;
+        to.push(hex_glyph(byte % 16))?;
     } else {
         to.push(byte)?;
     }
@@ -40,7 +40,7 @@ fn push_escaped(to: &mut Vec<u8>, byte: u8) -> Result<(), AllocError>
 }
 
 /// Returns a hexadecimal digit.
-pub(crate) fn hex_digit(digit: u8) -> u8
+pub(crate) fn hex_glyph(digit: u8) -> u8
     requires { digit < 16 }
     ensures { result ≡ digit_glyph false digit }
 {
@@ -52,7 +52,7 @@ pub(crate) fn hex_digit(digit: u8) -> u8
 }
 
 /// Appends a member of an object, after others: its name, and a string.
-pub fn push_text(to: &mut Vec<u8>, name: &str, text: &str) -> Result<(), AllocError>
+pub fn push_text_member(to: &mut Vec<u8>, name: &str, text: &str) -> Result<(), AllocError>
     ensures { OnOk result (to.new.items ≡ to.old.items ++ text_member name.now text.now) }
 {
     to.extend_from_slice(b",\"")?;

@@ -9,6 +9,6 @@ pub mod objects;
 pub mod totals;
 
 pub use crate::listed::{Finding, Listed, What, push_finding};
-pub use crate::message::{Facts, Message, message_of};
+pub use crate::message::{Message, PrintedFacts, message_of};
 pub use crate::objects::{Extras, push_object};
 pub use crate::totals::{Command, Totals, is_line_of, push_totals};

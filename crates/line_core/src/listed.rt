@@ -6,7 +6,7 @@ ghost use Rattle.line_core.specs.Listed.{finding_front, finding_line, finding_nu
 ghost use Rattle.line_core.specs.Listed.{found_of, judged, line_words, listed_at, listings, missing_of, outputs_of, said, value_member, with_met};
 ghost use Rattle.folder_core.specs.Places.{IsLastName};
 
-use crate::json::{push_number, push_text};
+use crate::json::{push_number, push_text_member};
 use crate::message::{Message, message_of};
 use crate::objects::push_head;
 use folder_core::{last_name, place_of};
@@ -38,7 +38,7 @@ pub struct Finding {
 
 // A listed output.
 #[derive(Drop)]
-struct Output {
+struct ListedOutput {
     number: u32,
     bytes: u64,
     is_met: bool,
@@ -48,7 +48,7 @@ struct Output {
 #[derive(Drop)]
 pub struct Listed {
     alloc: Global,
-    outputs: BTreeMap<String, Output>,
+    outputs: BTreeMap<String, ListedOutput>,
     found: Vec<Finding>,
     // How many lines are of no FILE that was sealed, kept or failed.
     others: u64,
@@ -146,13 +146,13 @@ fn take_in(
     into: Option<&str>,
     parents: bool,
     sealed: (&str, u32, u64),
-    outputs: &mut BTreeMap<String, Output>,
+    outputs: &mut BTreeMap<String, ListedOutput>,
 ) -> Result<(), AllocError> {
     let (name, number, bytes) = sealed;
     let Some(output) = output_of(alloc, into, parents, name)? else {
         return Ok(());
     };
-    let entry = Output {
+    let entry = ListedOutput {
         number,
         bytes,
         is_met: false,
@@ -164,7 +164,7 @@ fn take_in(
 }
 
 // Marks the output of this name, if it is listed, as met. Returns the number and the bytes of its line.
-fn meet_in(outputs: &mut BTreeMap<String, Output>, name: &str) -> Option<(u32, u64)>
+fn meet_in(outputs: &mut BTreeMap<String, ListedOutput>, name: &str) -> Option<(u32, u64)>
     ensures listed { result ≡ listed_at name.now (listings outputs.old.entries) }
     ensures met { listings outputs.new.entries ≡ with_met name.now (listings outputs.old.entries) }
 {
@@ -306,14 +306,14 @@ pub fn push_finding(
 fn push_finding_line(to: &mut Vec<u8>, finding: &Finding) -> Result<(), AllocError>
     ensures { OnOk result (to.new.items ≡ to.old.items ++ finding_line (said finding.now)) }
 {
-    to.extend_from_slice(words_of(finding.what))?;
+    to.extend_from_slice(finding_words(finding.what))?;
     to.extend_from_slice(finding.name.as_bytes())?;
     to.push(b'\n')?;
     Ok(())
 }
 
 // How the line of a finding begins.
-fn words_of(what: What) -> &'static [u8]
+fn finding_words(what: What) -> &'static [u8]
     ensures { result.now ≡ line_words what }
 {
     match what {
@@ -338,8 +338,8 @@ fn push_finding_object(alloc: Global, to: &mut Vec<u8>, finding: &Finding) -> Re
 fn push_finding_front(to: &mut Vec<u8>, finding: &Finding) -> Result<(), AllocError>
     ensures { OnOk result (to.new.items ≡ to.old.items ++ finding_front (said finding.now)) }
 {
-    push_head(to, status_of(finding.what))?;
-    push_text(to, "file", finding.name.as_str())?;
+    push_head(to, finding_status(finding.what))?;
+    push_text_member(to, "file", finding.name.as_str())?;
     Ok(())
 }
 
@@ -358,7 +358,7 @@ fn push_finding_numbers(
 }
 
 // The status of the object of a finding.
-fn status_of(what: What) -> &'static str
+fn finding_status(what: What) -> &'static str
     ensures { result.now ≡ finding_status what }
 {
     match what {

@@ -12,11 +12,11 @@
 //!     key ID no ranges                              ledger: older than NAME
 //!     not sealed NAME                               missing file DIGITS
 ghost use Rattle.std.specs.Prelude.{◌≡◌, ◌++◌, ◌∷◌, [], IfSome, codes, true};
-ghost use Rattle.line_core.specs.Messages.{AreDigits, bytes_text, facts_text, label_text, message_text};
+ghost use Rattle.line_core.specs.Messages.{AreDigits, printed_bytes, printed_facts, printed_label, message_text};
 
 /// What the second line of a good container says: digits, and the label between its quotes.
 #[derive(Clone, Copy)]
-pub struct Facts<'a> {
+pub struct PrintedFacts<'a> {
     pub version: &'a str,
     pub chunk: &'a str,
     pub device: &'a str,
@@ -47,7 +47,7 @@ pub enum Message<'a> {
     Shown {
         name: &'a str,
         bytes: &'a str,
-        facts: Facts<'a>,
+        facts: PrintedFacts<'a>,
     },
     Failed {
         name: &'a str,
@@ -82,7 +82,7 @@ pub enum Message<'a> {
         name: &'a str,
         key: &'a str,
         bytes: Option<&'a str>,
-        facts: Facts<'a>,
+        facts: PrintedFacts<'a>,
     },
     /// A key of which a ledger has no range.
     Unused {
@@ -113,7 +113,7 @@ pub fn message_of(text: &str) -> Option<Message<'_>>
         "opened" => opened_of(rest),
         "good" => good_of(rest),
         "failed" => failed_of(rest),
-        "key" => key_of(rest),
+        "key" => key_line_of(rest),
         "legal:" => legal_of(rest),
         "malformed" => malformed_of(rest),
         "illegal" => illegal_of(rest),
@@ -214,13 +214,13 @@ fn shown_of(rest: &str) -> Option<Message<'_>>
 {
     let (line, told) = cut_last(rest, "\n  version ")?;
     let (name, bytes) = digits_after(line, " bytes ")?;
-    let facts = facts_of(told)?;
+    let facts = printed_facts_of(told)?;
     Some(Message::Shown { name, bytes, facts })
 }
 
 // The facts, from the version on.
-fn facts_of(told: &str) -> Option<Facts<'_>>
-    ensures { IfSome result (λ facts. facts_text facts ≡ told.now) }
+fn printed_facts_of(told: &str) -> Option<PrintedFacts<'_>>
+    ensures { IfSome result (λ facts. printed_facts facts ≡ told.now) }
 {
     match cut_first(told, " label \"") {
         None => numbers_of(told, None),
@@ -232,7 +232,7 @@ fn facts_of(told: &str) -> Option<Facts<'_>>
 }
 
 // The facts before a label.
-fn numbers_of<'a>(numbers: &'a str, label: Option<&'a str>) -> Option<Facts<'a>>
+fn numbers_of<'a>(numbers: &'a str, label: Option<&'a str>) -> Option<PrintedFacts<'a>>
     ensures numbers { IfSome result (λ facts. facts.version.now ++ codes " chunk " ++ facts.chunk.now
         ++ codes " device " ++ facts.device.now ++ codes " file " ++ facts.number.now ≡ numbers.now) }
     ensures label { IfSome result (λ facts. facts.label ≡ label.entry) }
@@ -243,7 +243,7 @@ fn numbers_of<'a>(numbers: &'a str, label: Option<&'a str>) -> Option<Facts<'a>>
     if !are_digits(version) {
         return None;
     }
-    Some(Facts {
+    Some(PrintedFacts {
         version,
         chunk,
         device,
@@ -259,7 +259,7 @@ fn failed_of(rest: &str) -> Option<Message<'_>>
     Some(Message::Failed { name, fault })
 }
 
-fn key_of(rest: &str) -> Option<Message<'_>>
+fn key_line_of(rest: &str) -> Option<Message<'_>>
     ensures { IfSome result (λ message. message_text message ≡ codes "key " ++ rest.now) }
 {
     match cut_last(rest, " no ranges") {
@@ -343,7 +343,7 @@ fn labelled_in(text: &str) -> Option<(&str, &str)>
 // The parts of what a header says, before a label.
 fn header_of<'a>(line: &'a str, label: Option<&'a str>) -> Option<Message<'a>>
     ensures { IfSome result (λ message. message_text message
-        ≡ codes "unchecked " ++ line.now ++ label_text label.entry) }
+        ≡ codes "unchecked " ++ line.now ++ printed_label label.entry) }
 {
     let (front, bytes) = bytes_after(line)?;
     let (front, number) = digits_after(front, " file ")?;
@@ -351,7 +351,7 @@ fn header_of<'a>(line: &'a str, label: Option<&'a str>) -> Option<Message<'a>>
     let (front, key) = cut_last(front, " key ")?;
     let (front, chunk) = digits_after(front, " chunk ")?;
     let (name, version) = digits_after(front, " version ")?;
-    let facts = Facts {
+    let facts = PrintedFacts {
         version,
         chunk,
         device,
@@ -368,7 +368,7 @@ fn header_of<'a>(line: &'a str, label: Option<&'a str>) -> Option<Message<'a>>
 
 // The text before the bytes at a text's end, and their digits, or `None` where there is a question mark.
 fn bytes_after(text: &str) -> Option<(&str, Option<&str>)>
-    ensures { IfSome result (λ cut. text.now ≡ cut.0.now ++ codes " bytes " ++ bytes_text cut.1) }
+    ensures { IfSome result (λ cut. text.now ≡ cut.0.now ++ codes " bytes " ++ printed_bytes cut.1) }
 {
     match cut_last(text, " bytes ") {
         Some((front, "?")) => Some((front, None)),

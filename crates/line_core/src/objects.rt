@@ -2,12 +2,12 @@
 ghost use Rattle.std.specs.Prelude.{◌<◌, ◌≤◌, ◌≡◌, ◌↔◌, ◌∷◌, ◌++◌, [], ℕ, IfNone, IfOk, IfSome, IsTrue, List, OnOk, codes, length};
 ghost use Rattle.std.specs.Prelude.{slice_index};
 ghost use Rattle.line_core.specs.Json.{number_member, text_member};
-ghost use Rattle.line_core.specs.Labels.{HasLabel, hex_digits, hex_member, hex_value, label_of};
-ghost use Rattle.line_core.specs.Objects.{HasFacts, HasHeader, HasNumbers, HasTally, IsObject, facts_members, front_text, head};
+ghost use Rattle.line_core.specs.Labels.{HasLabel, hex_digits, hex_member, hex_value, read_label};
+ghost use Rattle.line_core.specs.Objects.{HasFacts, HasHeaderMembers, HasNumbers, HasTally, IsObject, facts_members, front_text, head};
 ghost use Rattle.line_core.specs.Objects.{header_members, name_member, some_number, some_text, status_text};
 
-use crate::json::{hex_digit, push_number, push_text};
-use crate::message::{Facts, Message};
+use crate::json::{hex_glyph, push_number, push_text_member};
+use crate::message::{Message, PrintedFacts};
 use std::alloc::{AllocError, Global};
 use std::str::from_utf8;
 
@@ -84,11 +84,11 @@ fn push_name(to: &mut Vec<u8>, message: &Message<'_>) -> Result<(), AllocError>
         | Message::Failed { name, .. }
         | Message::Unchecked { name, .. }
         | Message::Older { name }
-        | Message::NotSealed { name } => push_text(to, "file", name),
-        Message::Held { key, .. } | Message::Unused { key } => push_text(to, "key", key),
-        Message::Legal { .. } => push_text(to, "verdict", "legal"),
-        Message::Malformed { .. } => push_text(to, "verdict", "malformed"),
-        Message::Illegal { .. } => push_text(to, "verdict", "illegal"),
+        | Message::NotSealed { name } => push_text_member(to, "file", name),
+        Message::Held { key, .. } | Message::Unused { key } => push_text_member(to, "key", key),
+        Message::Legal { .. } => push_text_member(to, "verdict", "legal"),
+        Message::Malformed { .. } => push_text_member(to, "verdict", "malformed"),
+        Message::Illegal { .. } => push_text_member(to, "verdict", "illegal"),
         Message::Missing { number } => push_number(to, "number", number),
     }
 }
@@ -110,7 +110,7 @@ fn push_numbers(
             push_number(to, "bytes", bytes)?
         }
         Message::Shown { bytes, facts, .. } => push_facts(alloc, to, bytes, &facts)?,
-        Message::Failed { fault, .. } => push_text(to, "fault", fault)?,
+        Message::Failed { fault, .. } => push_text_member(to, "fault", fault)?,
         Message::Held {
             device,
             ranges,
@@ -214,7 +214,7 @@ fn push_some_text(to: &mut Vec<u8>, name: &str, text: Option<&str>) -> Result<()
     ensures { OnOk result (to.new.items ≡ to.old.items ++ some_text name.now text.entry) }
 {
     match text {
-        Some(text) => push_text(to, name, text),
+        Some(text) => push_text_member(to, name, text),
         None => Ok(()),
     }
 }
@@ -234,7 +234,7 @@ fn push_facts(
     alloc: Global,
     to: &mut Vec<u8>,
     bytes: &str,
-    facts: &Facts<'_>,
+    facts: &PrintedFacts<'_>,
 ) -> Result<(), AllocError>
     ensures { OnOk result ((members : List ℕ) × (to.new.items ≡ to.old.items ++ members)
         × HasFacts bytes.now facts.now members) }
@@ -248,7 +248,7 @@ fn push_facts(
 
 // Appends the bytes and the facts, but for the label.
 #[tactic(auto, unfolding(crate::specs::Objects::facts_members))]
-fn push_header(to: &mut Vec<u8>, bytes: &str, facts: &Facts<'_>) -> Result<(), AllocError>
+fn push_header(to: &mut Vec<u8>, bytes: &str, facts: &PrintedFacts<'_>) -> Result<(), AllocError>
     ensures { OnOk result (to.new.items ≡ to.old.items ++ facts_members bytes.now facts.now) }
 {
     push_number(to, "bytes", bytes)?;
@@ -265,10 +265,10 @@ fn push_unchecked(
     to: &mut Vec<u8>,
     key: &str,
     bytes: Option<&str>,
-    facts: &Facts<'_>,
+    facts: &PrintedFacts<'_>,
 ) -> Result<(), AllocError>
     ensures { OnOk result ((members : List ℕ) × (to.new.items ≡ to.old.items ++ members)
-        × HasHeader key.now bytes.entry facts.now members) }
+        × HasHeaderMembers key.now bytes.entry facts.now members) }
 {
     push_unlabelled(to, key, bytes, facts)?;
     if let Some(label) = facts.label {
@@ -283,13 +283,13 @@ fn push_unlabelled(
     to: &mut Vec<u8>,
     key: &str,
     bytes: Option<&str>,
-    facts: &Facts<'_>,
+    facts: &PrintedFacts<'_>,
 ) -> Result<(), AllocError>
     ensures { OnOk result (to.new.items ≡ to.old.items ++ header_members key.now bytes.entry facts.now) }
 {
     push_number(to, "version", facts.version)?;
     push_number(to, "chunk", facts.chunk)?;
-    push_text(to, "key", key)?;
+    push_text_member(to, "key", key)?;
     push_number(to, "device", facts.device)?;
     push_number(to, "number", facts.number)?;
     push_some_number(to, "bytes", bytes)
@@ -301,7 +301,7 @@ fn push_label(alloc: Global, to: &mut Vec<u8>, shown: &str) -> Result<(), AllocE
 {
     let label = label_bytes(alloc, shown)?;
     match from_utf8(label.as_slice()) {
-        Ok(text) => push_text(to, "label", text)?,
+        Ok(text) => push_text_member(to, "label", text)?,
         Err(_) => push_hex(to, label.as_slice())?,
     }
     Ok(())
@@ -326,15 +326,15 @@ fn push_hex(to: &mut Vec<u8>, label: &[u8]) -> Result<(), AllocError>
 fn push_digits(to: &mut Vec<u8>, byte: u8) -> Result<(), AllocError>
     ensures { OnOk result (to.new.items ≡ to.old.items ++ hex_digits byte) }
 {
-    to.push(hex_digit(byte / 16))?;
-    to.push(hex_digit(byte % 16))?;
+    to.push(hex_glyph(byte / 16))?;
+    to.push(hex_glyph(byte % 16))?;
     Ok(())
 }
 
 // The bytes of a label that a line shows like this: `\xHH` is the byte of these digits, and each other byte is itself.
-#[tactic(auto, unfolding(crate::specs::Labels::label_of))]
+#[tactic(auto, unfolding(crate::specs::Labels::read_label))]
 fn label_bytes(alloc: Global, shown: &str) -> Result<Vec<u8>, AllocError>
-    ensures { IfOk result (λ label. label.items ≡ label_of shown.now) }
+    ensures { IfOk result (λ label. label.items ≡ read_label shown.now) }
 {
     let mut label = Vec::new(alloc);
     let mut rest = shown.as_bytes();
@@ -348,7 +348,7 @@ fn label_bytes(alloc: Global, shown: &str) -> Result<Vec<u8>, AllocError>
 // The first byte of a label of which a line shows these bytes, and what shows the others.
 fn first_in(shown: &[u8]) -> Option<(u8, &[u8])>
     ensures none { IfNone result (shown.now ≡ []) }
-    ensures some { IfSome result (λ (byte, more). label_of shown.now ≡ byte ∷ label_of more.now) }
+    ensures some { IfSome result (λ (byte, more). read_label shown.now ≡ byte ∷ read_label more.now) }
     ensures less { IfSome result (λ (byte, more). length more.now < length shown.now) }
 {
     if is_escape(shown) {

@@ -39,7 +39,7 @@ appends_nothing (Some xs) None kept = absurd kept
 appends_nothing (Some xs) (Some ys) kept = subst (λ l. ys ≡ l) (sym (append-nil xs)) kept
 
 -- nothing is a front of any container
-pub takes_nothing : (key : List ℕ) (shape : ShapeView) (device : ℕ) (input old new : Option (List ℕ)) → Keeps old new
+takes_nothing : (key : List ℕ) (shape : ShapeView) (device : ℕ) (input old new : Option (List ℕ)) → Keeps old new
     → TakesFront key shape device input old new
 takes_nothing key shape device input old new kept = (
   0,

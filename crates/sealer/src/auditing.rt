@@ -1,7 +1,7 @@
 //! The command that audits a journal, and compares it with containers.
 ghost use Rattle.sealer.specs.Audit.{IsAudited, IsPlain};
 
-use crate::showing::{Containers, Look, TellFault, containers_of, look_over, tell_missing};
+use crate::showing::{Containers, Purpose, TellFault, containers_of, look_over, tell_missing};
 use crate::{Streams, print_complaint};
 use clap::ArgMatches;
 use command_line::{UsageFault, against_asked, list_request};
@@ -103,7 +103,7 @@ fn fitting<R: Files + AllocGlobal + Eprint, O: Write + Drop>(
     containers: &Containers,
     output: &mut ToWrite<O>,
 ) -> Result<u8, TellFault> {
-    let status = look_over(rt, Look::Journal(sealed), containers, output)?;
+    let status = look_over(rt, Purpose::Journal(sealed), containers, output)?;
     let is_whole = tell_missing(rt.alloc(), sealed, output)?;
     Ok(if is_whole { status } else { 1 })
 }

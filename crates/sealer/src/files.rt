@@ -20,7 +20,7 @@ use sealer_core::{KeyFault, Outs, read_key};
 use std::alloc::Global;
 use std::io::{ErrorKind, Read, Write};
 use std::rt::{Clock, Files};
-use system_files::{About, Cause, Names, Progress, Told, is_for_others, open_unbuffered};
+use system_files::{About, Cause, Names, ProgressLine, Told, is_for_others, open_unbuffered};
 
 /// Reads the key from the file at this path. A fault is printed, and the error is its status. With `causes` its cause is
 /// printed too, and a warning if others can read or write the file.
@@ -234,7 +234,7 @@ pub(crate) fn names_for(naming: Naming) -> Names
 /// Where a run over files prints. The progress line is cleared before each other line.
 pub(crate) fn outs_of<'p, 'r, R: Files + Clock + Eprint, O: Write + Drop, E: Write + Drop>(
     streams: Streams<O, E>,
-    progress: Option<&'p Progress<'r, R>>,
+    progress: Option<&'p ProgressLine<'r, R>>,
     journal: Option<ToWrite<R::File>>,
 ) -> Outs<ToWrite<Told<'p, 'r, R, O>>, ToWrite<Told<'p, 'r, R, E>>, ToWrite<R::File>>
     ensures lines { result.lines.0.writer ≡ streams.output.0 }
@@ -270,7 +270,7 @@ pub(crate) fn streams_of<R: Files + Clock + Eprint, O: Write + Drop, E: Write + 
 }
 
 /// Clears the progress line, if there is one.
-pub(crate) fn clear<R: Clock + Eprint>(progress: Option<&Progress<'_, R>>) {
+pub(crate) fn clear<R: Clock + Eprint>(progress: Option<&ProgressLine<'_, R>>) {
     if let Some(progress) = progress {
         let _ = progress.clear();
     }
@@ -285,10 +285,10 @@ pub(crate) fn progress_of<'r, R: Files + AllocGlobal + Clock + Eprint>(
     files: &[&str],
     readings: u64,
     terminal: bool,
-) -> Option<Progress<'r, R>> {
+) -> Option<ProgressLine<'r, R>> {
     match showing_asked(matches) {
-        Showing::Always => Progress::of(rt, how, files, readings),
-        Showing::OnTerminal if terminal => Progress::of(rt, how, files, readings),
+        Showing::Always => ProgressLine::of(rt, how, files, readings),
+        Showing::OnTerminal if terminal => ProgressLine::of(rt, how, files, readings),
         Showing::OnTerminal | Showing::Never => None,
     }
 }

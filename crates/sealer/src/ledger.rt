@@ -3,7 +3,7 @@ ghost use Rattle.std.specs.Prelude.{◌≡◌};
 ghost use Rattle.container_core.specs.Container.{hint_of};
 
 use crate::files::key_at;
-use crate::showing::{Containers, Look, TellFault, containers_of, look_over, print};
+use crate::showing::{Containers, Purpose, TellFault, containers_of, look_over, print};
 use crate::{Streams, explain, print_complaint};
 use clap::ArgMatches;
 use command_line::against_asked;
@@ -105,7 +105,7 @@ fn tell_held<R: Files + AllocGlobal + Eprint, W: Sink>(
 ) -> Result<u8, TellFault> {
     tell_all(rt.alloc(), held, hint, output)?;
     match containers {
-        Some(containers) => look_over(rt, Look::Ledger(held), containers, output),
+        Some(containers) => look_over(rt, Purpose::Ledger(held), containers, output),
         None => Ok(0),
     }
 }

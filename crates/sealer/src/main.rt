@@ -173,7 +173,7 @@ fn command_words<R: Env + AllocGlobal + Eprint + Threads>(rt: &R) -> Option<Vec<
     };
     let words: Result<Vec<String>, _> = arguments.collect(rt.alloc());
     let words = match words {
-        Ok(words) => in_digits(rt, words),
+        Ok(words) => with_digits(rt, words),
         Err(_) => None,
     };
     if words.is_none() {
@@ -183,7 +183,7 @@ fn command_words<R: Env + AllocGlobal + Eprint + Threads>(rt: &R) -> Option<Vec<
 }
 
 /// The words with their numbers in digits. `None` if memory is refused.
-fn in_digits<R: AllocGlobal + Threads>(rt: &R, words: Vec<String>) -> Option<Vec<String>> {
+fn with_digits<R: AllocGlobal + Threads>(rt: &R, words: Vec<String>) -> Option<Vec<String>> {
     let mut words = words;
     let processors = processors_for(rt, words.as_slice());
     match write_out(rt.alloc(), &mut words, processors) {

@@ -36,7 +36,7 @@ use std::io::Write;
 use std::rt::{Clock, Files};
 use std::sync::Wait;
 use std::thread::Threads;
-use system_files::{FileOptions, Makes, OwnPaths, Progress, SystemFiles};
+use system_files::{FileOptions, Makes, OwnPaths, ProgressLine, SystemFiles};
 use system_ledger::{LedgerPath, WitnessPath, close_ledger};
 
 /// Seals the files of these names. Returns the status, with the streams.
@@ -150,7 +150,7 @@ fn seal_to<
     key: &Key,
     request: &SealRequest<'_, '_>,
     folder: F,
-    progress: Option<&Progress<'_, R>>,
+    progress: Option<&ProgressLine<'_, R>>,
     journal: Option<ToWrite<R::File>>,
     streams: Streams<O, E>,
 ) -> (u8, Streams<O, E>)

@@ -12,7 +12,7 @@ use sealer_core::{FileFault, FileOutcome, Line};
 use std::alloc::Global;
 use std::io::{Read, Write};
 use std::rt::Files;
-use system_files::{About, Cause, SealedNumbers, Seen, Shown, cause_of, look_at};
+use system_files::{About, Cause, SealedNumbers, SeenHeader, Shown, cause_of, header_at};
 use system_ledger::{Holding, is_older};
 use thiserror::Error;
 
@@ -29,7 +29,7 @@ pub(crate) enum TellFault {
 
 /// What is done with the containers of a command.
 #[derive(Drop)]
-pub(crate) enum Look<'l> {
+pub(crate) enum Purpose<'l> {
     /// What their headers say is printed.
     Show,
     /// They are compared with what a ledger file holds.
@@ -60,7 +60,7 @@ pub(crate) fn show_as_asked<
         Ok(containers) => containers,
         Err(status) => return (status, streams),
     };
-    let status = match look_over(rt, Look::Show, &containers, &mut streams.output) {
+    let status = match look_over(rt, Purpose::Show, &containers, &mut streams.output) {
         Ok(status) => status,
         Err(fault) => print_complaint(rt, "show", fault),
     };
@@ -119,7 +119,7 @@ fn owned(alloc: Global, names: &[&str]) -> Result<Vec<String>, UsageFault> {
 /// with one, else 0.
 pub(crate) fn look_over<R: Files + AllocGlobal + Eprint, W: Sink>(
     rt: &R,
-    look: Look<'_>,
+    look: Purpose<'_>,
     containers: &Containers,
     output: &mut W,
 ) -> Result<u8, TellFault> {
@@ -140,7 +140,7 @@ fn look_at_name<R: Files + AllocGlobal + Eprint>(
     rt: &R,
     name: &str,
     containers: &Containers,
-) -> Result<(Seen, Option<u64>), FileFault> {
+) -> Result<(SeenHeader, Option<u64>), FileFault> {
     let causes = containers.causes;
     if !containers.is_quoted {
         return look_at_path(rt, name, name, causes);
@@ -160,8 +160,8 @@ fn look_at_path<R: Files + AllocGlobal + Eprint>(
     name: &str,
     path: &str,
     causes: bool,
-) -> Result<(Seen, Option<u64>), FileFault> {
-    let seen = look_at(rt, path);
+) -> Result<(SeenHeader, Option<u64>), FileFault> {
+    let seen = header_at(rt, path);
     match seen {
         Err(FileFault::CannotOpen | FileFault::Unopened(OpenFault::Read)) => {
             explain_container(rt, name, causes, About::Input(path));
@@ -187,9 +187,9 @@ fn explain_container<R: Files + AllocGlobal + Eprint>(
 // Prints what is to be said of a container. Returns whether all is well with it.
 fn print_shown<W: Sink>(
     alloc: Global,
-    look: &mut Look<'_>,
+    look: &mut Purpose<'_>,
     name: &str,
-    seen: Result<(Seen, Option<u64>), FileFault>,
+    seen: Result<(SeenHeader, Option<u64>), FileFault>,
     output: &mut W,
 ) -> Result<bool, TellFault> {
     let (seen, bytes) = match seen {
@@ -202,19 +202,19 @@ fn print_shown<W: Sink>(
         }
     };
     match look {
-        Look::Show => {
+        Purpose::Show => {
             let line = Shown { name, seen, bytes };
             print(format!(in alloc; "{line}\n"), output)?;
             Ok(true)
         }
-        Look::Ledger(held) => {
+        Purpose::Ledger(held) => {
             if !is_older(held, seen.hint, seen.facts.device, seen.facts.number) {
                 return Ok(true);
             }
             print(format!(in alloc; "ledger: older than {name}\n"), output)?;
             Ok(false)
         }
-        Look::Journal(sealed) => {
+        Purpose::Journal(sealed) => {
             if sealed.find(seen.facts.device, seen.facts.number) {
                 return Ok(true);
             }

@@ -21,7 +21,7 @@ use Rattle.container_core.proofs.HeaderLemmas.{shape-bounds}
 use Rattle.ranges_core.specs.Reservations.{TakenRange, Adjacent, end_from}
 use Rattle.ranges_core.proofs.Behind.{behind}
 use Rattle.sealer_core.specs.Life.{Acknowledged, IsGrantAt, IsLife, LedgerRun, Lives, Unacknowledged, reserved}
-use Rattle.sealer_core.specs.Theorem.{Place}
+use Rattle.sealer_core.specs.Theorem.{Position}
 use Rattle.sealer_core.proofs.Chunks.{nonce_inside, one_nonce}
 
 -- ranges of a list
@@ -91,7 +91,7 @@ not_apart k l h =
     (λ le. dite (dec_le l k) (λ ge. omega arith) (λ gt. absurd (h (λ e. omega arith))))
     (λ gt. absurd (h (λ e. omega arith)))
 
-pub same_place : (one other : Place) → one.device ≡ other.device → one.run ≡ other.run → one.entry ≡ other.entry → one ≡ other
+pub same_place : (one other : Position) → one.device ≡ other.device → one.run ≡ other.run → one.entry ≡ other.entry → one ≡ other
 same_place one other d r e =
     ap (λ x. record { device = x; run = one.run; entry = one.entry }) d
     ∙ ap (λ x. record { device = other.device; run = x; entry = one.entry }) r
@@ -99,26 +99,26 @@ same_place one other d r e =
 
 module _ (lives : Lives) where
   -- what is known of the number of a grant
-  record Standing (place : Place) (at : IsGrantAt lives place) : Type 0 where
+  record Standing (place : Position) (at : IsGrantAt lives place) : Type 0 where
     from : at.range.lo ≤ at.number
     below : at.number < at.range.lo + at.range.size
     three_bytes : place.device ≤ 16777215
     four_bytes : at.number < 4294967296
 
-  abbrev terms_at : (place : Place) → IsGrantAt lives place → Terms
+  abbrev terms_at : (place : Position) → IsGrantAt lives place → Terms
   terms_at place at = record { range = range_of place.device at.range.lo at.range.size; seats = at.seats }
 
-  legal_at : (place : Place) (at : IsGrantAt lives place) → Legal (terms_at place at) at.history
+  legal_at : (place : Position) (at : IsGrantAt lives place) → Legal (terms_at place at) at.history
   legal_at place at = at.life.legal place.run at.seats at.range at.history at.at_run
 
-  standing : (place : Place) (at : IsGrantAt lives place) → Standing place at
+  standing : (place : Position) (at : IsGrantAt lives place) → Standing place at
   standing place at =
       let (low, high) = (numbers_once (terms_at place at) at.history (legal_at place at)).inside place.entry at.number at.seat at.at_entry in
       let (lo, end) = acknowledged 0 (lives place.device) place.run at.seats at.range at.history at.life.adjacent at.at_run in
       let last = at.life.end in
       record { from = low; below = high; three_bytes = at.life.three_bytes; four_bytes = omega arith }
 
-  pub one_grant : (one other : Place) (at : IsGrantAt lives one) (also : IsGrantAt lives other)
+  pub one_grant : (one other : Position) (at : IsGrantAt lives one) (also : IsGrantAt lives other)
       → prefix_of one.device at.number ≡ prefix_of other.device also.number → one ≡ other
   one_grant one other at also same =
       let a = standing one at in
@@ -152,7 +152,7 @@ chunks_few shape plain lawful few =
     let count = count-few (size_of shape) (length plain) least few in
     omega (arith, h, count)
 
-pub one_granted_nonce : (key : List ℕ) (lives : Lives) (one other : Place) (shape form : ShapeView) (plain text : List ℕ) (chunk another : ℕ) (nonce : List ℕ)
+pub one_granted_nonce : (key : List ℕ) (lives : Lives) (one other : Position) (shape form : ShapeView) (plain text : List ℕ) (chunk another : ℕ) (nonce : List ℕ)
     → (at : IsGrantAt lives one) → (also : IsGrantAt lives other) → IsShape shape → IsShape form → length plain ≤ 2 ^ 40 → length text ≤ 2 ^ 40
     → slice_get (container_nonces key shape (prefix_of one.device at.number) plain) chunk ≡ Some nonce
     → slice_get (container_nonces key form (prefix_of other.device also.number) text) another ≡ Some nonce

@@ -12,7 +12,7 @@ use Rattle.container_core.specs.Stream.{prefix_in, stream}
 use Rattle.container_core.proofs.HeaderLemmas.{length-header_of, prefix_in-header_of}
 use Rattle.folder_core.specs.Record.{IsSound}
 use Rattle.journal_core.specs.Range.{Numbers, prefix_of}
-use Rattle.sealer_core.specs.Theorem.{AreRunsOf, HasChunk, IsKeyedBy, IsOutputAt, IsRun, Place, Run}
+use Rattle.sealer_core.specs.Theorem.{AreRunsOf, HasChunk, IsKeyedBy, IsOutputAt, IsRun, Position, Run}
 use Rattle.sealer_core.proofs.Chunks.{chunk_there, one_nonce}
 use Rattle.sealer_core.proofs.Numbered.{begins_at, is_run}
 
@@ -34,22 +34,22 @@ prefix_shown key bytes shape prefix plain seven long (rest, is) =
 
 module _ (key : List ℕ) (runs : ℕ → List Run) (are : AreRunsOf key runs) where
   -- what an output holds begins a container
-  abbrev BeginsAt : (place : Place) → IsOutputAt runs place → Numbers → Type 0
+  abbrev BeginsAt : (place : Position) → IsOutputAt runs place → Numbers → Type 0
   BeginsAt place at range = IsShape at.shape × ((range.lo ≤ at.number) × (at.number < range.lo + range.size))
       × ((plain : List ℕ) × IsFront at.output.bytes (container key at.shape (prefix_of place.device at.number) plain))
 
-  begins_it : (place : Place) (at : IsOutputAt runs place) (is : IsRun key place.device at.run) → IsSound at.run.written → BeginsAt place at is.range
+  begins_it : (place : Position) (at : IsOutputAt runs place) (is : IsRun key place.device at.run) → IsSound at.run.written → BeginsAt place at is.range
   begins_it place at is sound =
       let (lawful, inside, begun) = begins_at key is.range at.run.written place.entry at.number at.output at.shape is.keyed sound at.at_entry at.content in
       (lawful, inside, subst (λ d. (plain : List ℕ) × IsFront at.output.bytes (container key at.shape (prefix_of d at.number) plain)) is.of_device begun)
 
-  pub begins : (place : Place) (at : IsOutputAt runs place)
+  pub begins : (place : Position) (at : IsOutputAt runs place)
       → (range : Numbers) × (range.device ≡ place.device) × IsKeyedBy key range at.run.written × ∥ BeginsAt place at range ∥₁
   begins place at =
       let is = is_run key runs are place at in
       (is.range, is.of_device, is.keyed, ∥∥₁_map is.sound (begins_it place at is))
 
-  pub each : (place : Place) (chunk : ℕ) (at : IsOutputAt runs place)
+  pub each : (place : Position) (chunk : ℕ) (at : IsOutputAt runs place)
       → length (header_of key at.shape (prefix_of place.device at.number)) + chunk * (size_of at.shape + tag_size) < length at.output.bytes
       → chunk < 2 ^ 32 → ∥ ((nonce : List ℕ) × HasChunk key at.output.bytes chunk nonce) ∥₁
   each place chunk at reached few =
@@ -60,11 +60,11 @@ module _ (key : List ℕ) (runs : ℕ → List Run) (are : AreRunsOf key runs) w
 
   -- what the law on prefixes says of these runs
   abbrev pub OnePrefix : Type 0
-  OnePrefix = (one other : Place) (at : IsOutputAt runs one) (also : IsOutputAt runs other)
+  OnePrefix = (one other : Position) (at : IsOutputAt runs one) (also : IsOutputAt runs other)
       → prefix_of one.device at.number ≡ prefix_of other.device also.number → one ≡ other
 
   -- an output has the prefix of each chunk of it
-  prefix_is : (place : Place) (chunk : ℕ) (nonce : List ℕ) (at : IsOutputAt runs place)
+  prefix_is : (place : Position) (chunk : ℕ) (nonce : List ℕ) (at : IsOutputAt runs place)
       → (has : HasChunk key at.output.bytes chunk nonce) → prefix_of place.device at.number ≡ has.prefix
   prefix_is place chunk nonce at has =
       let is = is_run key runs are place at in
@@ -77,7 +77,7 @@ module _ (key : List ℕ) (runs : ℕ → List Run) (are : AreRunsOf key runs) w
       let (lawful, inside, (plain, front)) = begins_it place at is sound in
       sym (prefix_shown key bytes at.shape (prefix_of place.device at.number) plain refl long front) ∙ shown)
 
-  pub once : OnePrefix → (one other : Place) (chunk another : ℕ) (nonce : List ℕ) (at : IsOutputAt runs one) (also : IsOutputAt runs other)
+  pub once : OnePrefix → (one other : Position) (chunk another : ℕ) (nonce : List ℕ) (at : IsOutputAt runs one) (also : IsOutputAt runs other)
       → HasChunk key at.output.bytes chunk nonce → HasChunk key also.output.bytes another nonce → (one ≡ other) × (chunk ≡ another)
   once law one other chunk another nonce at also has had =
       let (prefixes, chunks) = one_nonce key has.prefix had.prefix has.plain had.plain has.shape had.shape chunk another nonce has.seven had.seven

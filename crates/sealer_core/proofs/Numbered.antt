@@ -15,7 +15,7 @@ use Rattle.journal_core.specs.Range.{Numbers, prefix_of}
 use Rattle.journal_core.proofs.Prefixes.{prefix_tells}
 use Rattle.output_core.specs.Bounds.{Allows}
 use Rattle.reserve_core.specs.NextRun.{PassesOn}
-use Rattle.sealer_core.specs.Theorem.{AreRunsOf, IsKeyedBy, IsOutputAt, IsRun, Place, Run}
+use Rattle.sealer_core.specs.Theorem.{AreRunsOf, IsKeyedBy, IsOutputAt, IsRun, Position, Run}
 use Rattle.sealer_core.proofs.Lives.{not_apart, same_place}
 use Rattle.sealer_core.proofs.Numbering.{one_alone}
 
@@ -102,7 +102,7 @@ module _ (key : List ℕ) (runs : ℕ → List Run) (are : AreRunsOf key runs) w
       (λ gt. let h = later device j i other one (omega arith) also at in omega arith))
 
   -- what is known of the number of an output
-  record Standing (place : Place) (at : IsOutputAt runs place) : Type 0 where
+  record Standing (place : Position) (at : IsOutputAt runs place) : Type 0 where
     once : times_begun at.number at.run.written.entries ≤ 1
     hit : begins at.number (Created at.output) ≡ true
     from : lo_of at.run ≤ at.number
@@ -110,10 +110,10 @@ module _ (key : List ℕ) (runs : ℕ → List Run) (are : AreRunsOf key runs) w
     three_bytes : place.device ≤ 16777215
     four_bytes : at.number < 4294967296
 
-  pub is_run : (place : Place) (at : IsOutputAt runs place) → IsRun key place.device at.run
+  pub is_run : (place : Position) (at : IsOutputAt runs place) → IsRun key place.device at.run
   is_run place at = are.each place.device place.run at.run at.at_run
 
-  standing : (place : Place) (at : IsOutputAt runs place) → IsSound at.run.written → Standing place at
+  standing : (place : Position) (at : IsOutputAt runs place) → IsSound at.run.written → Standing place at
   standing place at sound =
       let is = is_run place at in
       let (lawful, (from, below), plain) = begins_at key is.range at.run.written place.entry at.number at.output at.shape is.keyed sound at.at_entry at.content in
@@ -130,7 +130,7 @@ module _ (key : List ℕ) (runs : ℕ → List Run) (are : AreRunsOf key runs) w
         four_bytes = omega arith;
       }
 
-  one_place : (one other : Place) (at : IsOutputAt runs one) (also : IsOutputAt runs other) → Standing one at → Standing other also
+  one_place : (one other : Position) (at : IsOutputAt runs one) (also : IsOutputAt runs other) → Standing one at → Standing other also
       → prefix_of one.device at.number ≡ prefix_of other.device also.number → one ≡ other
   one_place one other at also a b same =
       let (devices, numbers) = prefix_tells one.device at.number other.device also.number a.three_bytes a.four_bytes b.three_bytes b.four_bytes same in
@@ -149,11 +149,11 @@ module _ (key : List ℕ) (runs : ℕ → List Run) (are : AreRunsOf key runs) w
       (one_alone (begins at.number) at.run.written.entries one.entry other.entry (Created at.output) (Created also.output) a.once at.at_entry in_it
       a.hit (ap (λ n. begins n (Created also.output)) numbers ∙ b.hit))
 
-  place_code : Coded Place
+  place_code : Coded Position
   place_code = code_by (ℕ × (ℕ × ℕ)) (coded× coded_ℕ (coded× coded_ℕ coded_ℕ)) (λ p. (p.device, (p.run, p.entry)))
       (λ t. record { device = t.0; run = t.1.0; entry = t.1.1 }) (λ _. refl)
 
-  pub one_prefix : (one other : Place) (at : IsOutputAt runs one) (also : IsOutputAt runs other)
+  pub one_prefix : (one other : Position) (at : IsOutputAt runs one) (also : IsOutputAt runs other)
       → prefix_of one.device at.number ≡ prefix_of other.device also.number → one ≡ other
   one_prefix one other at also same =
       ∥∥₁_elim (is_run one at).sound (Coded-set place_code _ _) (λ sound.

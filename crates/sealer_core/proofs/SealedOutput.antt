@@ -33,7 +33,7 @@ use Rattle.command_core.specs.declared.line.FileOutcome.TheVariants.{Failed, Sea
 use Rattle.command_core.specs.Putting.{closed_output}
 use Rattle.command_core.proofs.Files.{known_at}
 use Rattle.command_core.proofs.Puts.{all_front, count_is, put_closed}
-use Rattle.sealer_core.specs.Group.{ClosesBy, EndsBy, IsEnding, IsKeyed, IsKnownLeft, IsLonger, PutsLeft, filled, uncreated_as, void_at}
+use Rattle.sealer_core.specs.Group.{ClosesBy, IsEnding, IsKeyed, IsKnownLeft, IsLonger, OutputEndsBy, PutsLeft, filled, uncreated_as, void_at}
 use Rattle.sealer_core.specs.Sealing.{IsWhyGivenUp, PutsSealed, SealedUnder, container_by, operations_of, unissued_as}
 use Rattle.sealer_core.proofs.FileEnds.{change_after}
 use Rattle.sealer_core.proofs.Keyed.{admits_container, idle_keyed, inside_range, keyed_after, keyed_filled, keyed_more, may_hold}
@@ -280,7 +280,7 @@ module _ (u : SealedUnder) (number : ℕ) (output : List ℕ) (window place : �
 
     ends_at : (sealed : Result ℕ SealFault) (outcome : FileOutcome) → HasReadPlain u.most left left' reads reads' sealed
         → HasWrittenRounds u.key u.shape (prefix_of u.device number) u.most window (io_view left reads start zero) (io_view left' reads' taken failures) sealed
-        → sealed ≢ Err fault_of.TooManyChunks → EndsBy sealed number outcome → ClosesBy sealed outcome filled taken failures after
+        → sealed ≢ Err fault_of.TooManyChunks → OutputEndsBy sealed number outcome → ClosesBy sealed outcome filled taken failures after
         → Grows (PutsLeft u output left outcome (void_at number outcome)) before after
     ends_at (Ok bytes) (Sealed n long) read wrote few (same, count) closes =
         closed_as (Sealed n long) Finished failures closes
@@ -300,9 +300,9 @@ module _ (u : SealedUnder) (number : ℕ) (output : List ℕ) (window place : �
     pub sealed_ends : (device spent : ℕ) (sealed : Result ℕ SealFault) (outcome : FileOutcome) → device ≡ u.device → spent ≡ number
         → HasReadPlain u.most left left' reads reads' sealed
         → HasWrittenRounds u.key u.shape (prefix_of device number) u.most window (io_view left reads start zero) (io_view left' reads' taken failures) sealed
-        → sealed ≢ Err fault_of.TooManyChunks → EndsBy sealed spent outcome → ClosesBy sealed outcome filled taken failures after
+        → sealed ≢ Err fault_of.TooManyChunks → OutputEndsBy sealed spent outcome → ClosesBy sealed outcome filled taken failures after
         → Grows (PutsLeft u output left outcome (void_at number outcome)) before after
     sealed_ends device spent sealed outcome of is read wrote few end closes =
         ends_at sealed outcome read
         (subst (λ d. HasWrittenRounds u.key u.shape (prefix_of d number) u.most window (io_view left reads start zero) (io_view left' reads' taken failures) sealed) of wrote)
-        few (subst (λ n. EndsBy sealed n outcome) is end) closes
+        few (subst (λ n. OutputEndsBy sealed n outcome) is end) closes

@@ -18,7 +18,7 @@ use Rattle.sealer_core.specs.Sealing.{AreSealed, SealedUnder}
 
 -- the ledger file has the range for good
 pub stands_in : {S L F : Type 0} (g : Ghosts S) (kept : Held S → F) (folded : L → F) (is_folded : S → L → Type 0) (key : List ℕ) (device count : ℕ) (before file : F) (range : Numbers)
-    → IsLawfulRange range → front.FoldsARange g kept folded is_folded (front.range_asked (sha256 key) device count) before file range → front.StandsIn g kept folded is_folded key file range
+    → IsLawfulRange range → front.FoldsARange g kept folded is_folded (front.range_asked (sha256 key) device count) before file range → front.IsGrantedIn g kept folded is_folded key file range
 stands_in g kept folded is_folded key device count before file range lawful folds =
     (count, before, lawful, subst (λ d. front.FoldsARange g kept folded is_folded (front.range_asked (sha256 key) d count) before file range) (sym (of_device folds)) folds)
   where

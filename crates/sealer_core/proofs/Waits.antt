@@ -11,11 +11,11 @@ use Rattle.command_core.specs.declared.line.FileOutcome.{FileOutcome}
 use Rattle.command_core.specs.declared.line.FileOutcome.TheVariants.{Failed, Sealed}
 use Rattle.command_core.specs.Putting.{once_if}
 use Rattle.command_core.proofs.Puts.{all_front, count_is}
-use Rattle.sealer_core.specs.Group.{ClosesBy, EndsBy, IsPut, filled}
+use Rattle.sealer_core.specs.Group.{ClosesBy, IsPut, OutputEndsBy, filled}
 use Rattle.sealer_core.specs.Sealing.{IsOfSealing}
 
 -- an outcome of sealing
-pub of_sealing : (sealed : Result ℕ SealFault) (number : ℕ) (outcome : FileOutcome) → sealed ≢ Err sealing_fault.TooManyChunks → EndsBy sealed number outcome
+pub of_sealing : (sealed : Result ℕ SealFault) (number : ℕ) (outcome : FileOutcome) → sealed ≢ Err sealing_fault.TooManyChunks → OutputEndsBy sealed number outcome
     → IsOfSealing outcome
 of_sealing (Ok bytes) number (Sealed n m) few ends = tt
 of_sealing (Ok bytes) number outcome few ends = subst IsOfSealing (sym ends) (λ is. cc)
@@ -23,7 +23,7 @@ of_sealing (Err fault) number (Sealed n m) few ends = absurd (cc)
 of_sealing (Err fault) number outcome few ends = subst IsOfSealing (sym ends) (λ is. few (ap Err is))
 
 -- of one whose sealing failed
-pub spoil_outcome : (fault : SealFault) (number : ℕ) (outcome : FileOutcome) → EndsBy (Err fault) number outcome → outcome ≡ Failed (Unsealed fault)
+pub spoil_outcome : (fault : SealFault) (number : ℕ) (outcome : FileOutcome) → OutputEndsBy (Err fault) number outcome → outcome ≡ Failed (Unsealed fault)
 spoil_outcome fault number (Sealed n m) ends = ends
 spoil_outcome fault number outcome ends = ends
 
@@ -78,7 +78,7 @@ module _ (place : ℕ) (content : Content) (start taken : Option (List ℕ)) (ze
 
     -- all was written
     pub put_ends : (bytes : List ℕ) (number long : ℕ) (outcome : FileOutcome) → Appends start taken bytes → failures ≡ counted false zero
-        → EndsBy (Ok long) number outcome → ClosesBy (Ok long) outcome written taken failures after
+        → OutputEndsBy (Ok long) number outcome → ClosesBy (Ok long) outcome written taken failures after
         → IsPut place content bytes number long outcome before after
     put_ends bytes number long (Sealed n m) grew count (same_number, same_long) closes =
         (same_number, same_long, filled_with Finished false bytes failures grew count closes)
@@ -87,13 +87,13 @@ module _ (place : ℕ) (content : Content) (start taken : Option (List ℕ)) (ze
 
     -- a write failed
     pub put_fails : (bytes : List ℕ) (number long : ℕ) (outcome : FileOutcome) → AppendsFront start taken bytes → failures ≡ counted true zero
-        → EndsBy (Err sealing_fault.Write) number outcome → ClosesBy (Err sealing_fault.Write) outcome written taken failures after
+        → OutputEndsBy (Err sealing_fault.Write) number outcome → ClosesBy (Err sealing_fault.Write) outcome written taken failures after
         → IsPut place content bytes number long outcome before after
     put_fails bytes number long (Sealed n m) grew count end closes = absurd (cc)
     put_fails bytes number long outcome grew count end closes = (end, filled_front bytes failures grew count closes)
 
     -- nothing was
-    pub spoil_ends : (fault : SealFault) (number : ℕ) (outcome : FileOutcome) → Keeps start taken → failures ≡ counted false zero → EndsBy (Err fault) number outcome
+    pub spoil_ends : (fault : SealFault) (number : ℕ) (outcome : FileOutcome) → Keeps start taken → failures ≡ counted false zero → OutputEndsBy (Err fault) number outcome
         → ClosesBy (Err fault) outcome written taken failures after → Becomes (filled place content GivenUp [] 0) before after
     spoil_ends fault number (Sealed n m) kept count end closes = absurd (cc)
     spoil_ends fault number outcome kept count end closes = by after (fills GivenUp failures after closes)

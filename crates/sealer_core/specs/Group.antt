@@ -146,10 +146,10 @@ IsContainerUnder key shape (job.Unissued seat fault) = ⊤
 -- ---- how a file ends
 
 -- How an output ends, by how its sealing ended under this number: if all was sealed it is finished, or couldn't be.
-abbrev pub EndsBy : Result ℕ SealFault → ℕ → FileOutcome → Type 0
-EndsBy (Ok bytes) number (Sealed n m) = (n ≡ number) × (m ≡ bytes)
-EndsBy (Ok bytes) number end = end ≡ Failed (Unsealed sealing_fault.Write)
-EndsBy (Err fault) number end = end ≡ Failed (Unsealed fault)
+abbrev pub OutputEndsBy : Result ℕ SealFault → ℕ → FileOutcome → Type 0
+OutputEndsBy (Ok bytes) number (Sealed n m) = (n ≡ number) × (m ≡ bytes)
+OutputEndsBy (Ok bytes) number end = end ≡ Failed (Unsealed sealing_fault.Write)
+OutputEndsBy (Err fault) number end = end ≡ Failed (Unsealed fault)
 
 -- The output in hand was closed so: finished, or given up. A refused end counts as a failed write.
 abbrev pub ClosesBy : Result ℕ SealFault → FileOutcome → Option RunRecord → Option (List ℕ) → Option ℕ

@@ -5,7 +5,7 @@ use Rattle.journal_core.specs.declared.entry.Entry.{Entry}
 use Rattle.journal_core.specs.Range.{most_device, number_limit, range_of}
 use Rattle.journal_core.specs.History.{Legal, entry}
 use Rattle.ranges_core.specs.Reservations.{TakenRange, Adjacent, next_of}
-use Rattle.sealer_core.specs.Theorem.{Place}
+use Rattle.sealer_core.specs.Theorem.{Position}
 
 -- one run
 pub data LedgerRun : Type 0 where
@@ -36,7 +36,7 @@ abbrev pub Lives : Type 0
 Lives = ℕ → List LedgerRun
 
 -- At this place a number was granted: by a device's run, as an entry of what its ledger did.
-pub record IsGrantAt (lives : Lives) (place : Place) : Type 0 where
+pub record IsGrantAt (lives : Lives) (place : Position) : Type 0 where
   pub life : IsLife place.device (lives place.device)
   pub range : TakenRange
   pub seats : ℕ

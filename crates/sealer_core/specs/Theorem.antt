@@ -94,13 +94,13 @@ IsOfStream key range shape bytes r = ((bytes ≡ []) × (r ≡ stream_record key
 -- ---- outputs and chunks
 
 -- Where an output is: its device, its run among those of the device, and its place in the record of the run.
-pub record Place : Type 0 where
+pub record Position : Type 0 where
   pub device : ℕ
   pub run : ℕ
   pub entry : ℕ
 
 -- At this place is an output that may hold a container, under a number and in a shape.
-pub record IsOutputAt (runs : ℕ → List Run) (place : Place) : Type 0 where
+pub record IsOutputAt (runs : ℕ → List Run) (place : Position) : Type 0 where
   pub run : Run
   pub at_run : slice_get (runs place.device) place.run ≡ Some run
   pub output : Output

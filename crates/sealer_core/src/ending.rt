@@ -12,7 +12,7 @@ use ledger_core::{Failed, Journal, Ledger, Seat};
 use std::alloc::Global;
 
 // Lets the seats meet, twice round in their order.
-fn meet(ledger: Ledger, mut seats: Vec<Seat>)
+fn meet_twice(ledger: Ledger, mut seats: Vec<Seat>)
     requires { AreAllSeats ledger seats.items }
     ensures { (history : List Entry) × IsWhole ledger.terms seats.items history }
 {
@@ -53,7 +53,7 @@ fn write_journal<J: Report>(
     match ledger.close(seats) {
         Ok(journal) => write_text(alloc, &journal, writer),
         Err((_, ledger, seats)) => {
-            meet(ledger, seats);
+            meet_twice(ledger, seats);
             Err(RunFault::NoJournal)
         }
     }
@@ -72,7 +72,7 @@ pub(crate) fn end_ledger<J: Report>(
 {
     match journal {
         None => {
-            meet(ledger, seats);
+            meet_twice(ledger, seats);
             Ok(())
         }
         Some(writer) => write_journal(alloc, ledger, seats, writer),

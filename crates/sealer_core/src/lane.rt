@@ -16,7 +16,7 @@ ghost use Rattle.ledger_core.specs.declared.fault.IssueFault.{IssueFault};
 ghost use Rattle.command_core.specs.Lines.{FileLine};
 ghost use Rattle.folder_core.specs.Growth.{Grows};
 ghost use Rattle.folder_core.specs.Record.{bound_in};
-ghost use Rattle.sealer_core.specs.Group.{AreKeyed, AreOwing, ClosesBy, EndsBy, IsCounted, IsEnding, IsLonger, OwesAt};
+ghost use Rattle.sealer_core.specs.Group.{AreKeyed, AreOwing, ClosesBy, IsCounted, IsEnding, IsLonger, OutputEndsBy, OwesAt};
 ghost use Rattle.sealer_core.specs.Group.{IsKnownLeft, PutsLeft, SettledAt, uncreated_as, under_in};
 ghost use Rattle.sealer_core.specs.Sealing.{Accounts, AddsSealed, IsOfSealing, container_by, given_up_in, is_unread};
 ghost use Rattle.sealer_core.specs.Sealing.{line_of, operations_of, unissued_as};
@@ -119,7 +119,7 @@ pub(crate) fn end_output<F: Outputs>(
     requires owed { OwesAt ledger.now seats.old place spent.device spent.number }
     requires sealed { OnOk sealed (spent.way ≡ Sealed) }
     ensures all { AreAllSeats ledger.now seats.new }
-    ensures outcome { EndsBy sealed spent.number result }
+    ensures outcome { OutputEndsBy sealed spent.number result }
     ensures closed { ClosesBy sealed result (F.rest folder.old) (F.taken folder.old) (F.failures folder.old)
         (F.rest folder.new) }
     ensures settled { IsEnding spent.number (operations_of seats.old) (operations_of seats.new) result }

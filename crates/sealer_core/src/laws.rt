@@ -9,10 +9,10 @@ ghost use Rattle.container_core.specs.Nonces.{container_nonces, sealed_by_nonces
 ghost use Rattle.container_core.specs.Shape.{IsShape, ShapeView, size_of};
 ghost use Rattle.ranges_core.specs.Reservations.{TakenRange};
 ghost use Rattle.sealer_core.specs.Life.{IsGrantAt, IsLife, LedgerRun, Lives, reserved};
-ghost use Rattle.sealer_core.specs.Theorem.{AreRunsOf, IsOutputAt, Place, Run};
+ghost use Rattle.sealer_core.specs.Theorem.{AreRunsOf, IsOutputAt, Position, Run};
 
 /// In the life of a key and device no number is in two of the ranges that its runs reserved.
-pub fn ranges_are_apart()
+pub fn ranges_of_lives_are_apart()
     ensures { (device : ℕ) (runs : List LedgerRun) (i j number : ℕ) (one other : TakenRange)
         → IsLife device runs → i ≢ j
         → slice_get (reserved runs) i ≡ Some one → slice_get (reserved runs) j ≡ Some other
@@ -21,7 +21,7 @@ pub fn ranges_are_apart()
 
 /// Over all runs of all devices of one key, two grants with one prefix are the same grant.
 pub fn no_prefix_is_granted_twice()
-    ensures { (lives : Lives) (one other : Place) → (at : IsGrantAt lives one) → (also : IsGrantAt lives other)
+    ensures { (lives : Lives) (one other : Position) → (at : IsGrantAt lives one) → (also : IsGrantAt lives other)
         → prefix_of one.device at.number ≡ prefix_of other.device also.number → one ≡ other }
 {}
 
@@ -30,7 +30,7 @@ pub fn no_prefix_is_granted_twice()
 /// each grant, they are the same chunk of the same container. An interrupted sealing wrote a prefix of such a container, so
 /// its chunks are among these.
 pub fn no_granted_nonce_is_used_twice()
-    ensures { (key : List ℕ) (lives : Lives) (one other : Place) (shape form : ShapeView) (plain text : List ℕ)
+    ensures { (key : List ℕ) (lives : Lives) (one other : Position) (shape form : ShapeView) (plain text : List ℕ)
         (chunk another : ℕ) (nonce : List ℕ) → (at : IsGrantAt lives one) → (also : IsGrantAt lives other)
         → IsShape shape → IsShape form → length plain ≤ 2 ^ 40 → length text ≤ 2 ^ 40
         → slice_get (container_nonces key shape (prefix_of one.device at.number) plain) chunk ≡ Some nonce
@@ -49,7 +49,7 @@ pub fn containers_are_sealed_under_their_nonces()
 /// No two outputs of any runs of one key have one prefix. Each device's numbers are its own, each number is in one run's
 /// range, and one output of that run has it.
 pub fn no_two_outputs_have_one_prefix()
-    ensures { (key : List ℕ) (runs : ℕ → List Run) (one other : Place) → AreRunsOf key runs
+    ensures { (key : List ℕ) (runs : ℕ → List Run) (one other : Position) → AreRunsOf key runs
         → (at : IsOutputAt runs one) → (also : IsOutputAt runs other)
         → prefix_of one.device at.number ≡ prefix_of other.device also.number → one ≡ other }
 {}

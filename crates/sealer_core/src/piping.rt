@@ -27,7 +27,7 @@ ghost use Rattle.sealer_core.specs.Sealing.{sealed_under};
 use crate::context::PipeContext;
 use crate::ending::end_ledger;
 use crate::lane::{issue_to_file, settle_of_file};
-use crate::sealing::{open_ledger, start_record};
+use crate::sealing::{begin_ledger, start_record};
 use crate::trouble::complain;
 use command_core::{FileFault, FileOutcome, Outs, Report, SealingOutputs, tell};
 use container_core::{Key, SealFault, Shape};
@@ -261,7 +261,7 @@ pub fn pipe_all<
     // A ledger file that has no keeper stays as it is.
     ensures other { ((k : Held S) → file.old ≢ LedgerFile.Kept k) → file.new ≡ file.old }
 {
-    let (ledger, mut seats) = match open_ledger(alloc, key, file, options.device, 1, 1, witness) {
+    let (ledger, mut seats) = match begin_ledger(alloc, key, file, options.device, 1, 1, witness) {
         Ok(opened) => opened,
         Err(fault) => {
             complain(alloc, &mut out.faults, fault);

@@ -13,7 +13,7 @@ ghost use Rattle.journal_core.specs.Text.{journal_text};
 ghost use Rattle.ledger_core.specs.Closing.{AreAllSeats};
 ghost use Rattle.ledger_core.specs.Shared.{fresh_seats};
 ghost use Rattle.command_core.specs.Printing.{Complains};
-ghost use Rattle.command_core.specs.GrantedRange.{StandsIn};
+ghost use Rattle.command_core.specs.GrantedRange.{IsGrantedIn};
 ghost use Rattle.reserve_core.specs.Lasting.{StillLast};
 ghost use Rattle.reserve_core.specs.Witness.{IsWitnessed};
 ghost use Rattle.folder_core.specs.Changes.{Becomes, IsUnstarted, started};
@@ -112,7 +112,7 @@ fn reserve_for<S: Fold>(
 }
 
 /// Opens a ledger over a new range, with a seat for each lane. The witness has recorded the range.
-pub(crate) fn open_ledger<S: Fold, N: Witness>(
+pub(crate) fn begin_ledger<S: Fold, N: Witness>(
     alloc: Global,
     key: &Key,
     file: &mut LedgerFile<S>,
@@ -155,7 +155,7 @@ pub(crate) fn start_record<S: Fold, F: SealingOutputs>(
     ledger: &Ledger,
     outputs: &mut F,
 )
-    requires stands { StandsIn S.Store LedgerFile.Kept LedgerFile.Folded S.is_folded key.now file.now
+    requires stands { IsGrantedIn S.Store LedgerFile.Kept LedgerFile.Folded S.is_folded key.now file.now
         ledger.now.terms.range }
     requires unstarted { IfSome (F.rest outputs.old) IsUnstarted }
     ensures taken { F.taken outputs.new ≡ F.taken outputs.old }
@@ -187,7 +187,7 @@ fn work_ledger<
     options: &SealOptions,
     out: &mut Outs<L, E, J>,
 ) -> (u8, Result<(), RunFault>)
-    requires stands { StandsIn S.Store LedgerFile.Kept LedgerFile.Folded S.is_folded key.now file.now
+    requires stands { IsGrantedIn S.Store LedgerFile.Kept LedgerFile.Folded S.is_folded key.now file.now
         ledger.terms.range }
     requires all { AreAllSeats ledger seats.items }
     requires lanes { (0 < options.now.lanes) × (options.now.lanes ≤ MAX_LANES)
@@ -291,7 +291,7 @@ pub fn seal_all<
     ensures other { ((k : Held S) → file.old ≢ LedgerFile.Kept k) → file.new ≡ file.old }
 {
     let (device, files, lanes) = (options.device, options.files.len(), options.lanes);
-    let (ledger, seats) = match open_ledger(alloc, key, file, device, files, lanes, witness) {
+    let (ledger, seats) = match begin_ledger(alloc, key, file, device, files, lanes, witness) {
         Ok(opened) => opened,
         Err(fault) => {
             complain(alloc, &mut out.faults, fault);

@@ -24,7 +24,7 @@ ghost use Rattle.sealer_core.specs.Restored.{HasOpenedFiles, HasSealedFiles, IsF
 ghost use Rattle.sealer_core.specs.Restored.{WasOpened, WasSealed};
 ghost use Rattle.sealer_core.specs.Sealing.{HasSealed, SealedUnder, container_by, sealed_name, sealed_under};
 ghost use Rattle.sealer_core.specs.Theorem.{AreRunsOf, FoldsFrom, HasChunk, IsKeyedBy, IsLeftOf, IsOutputAt, IsRun};
-ghost use Rattle.sealer_core.specs.Theorem.{IsOfStream, Place, Run};
+ghost use Rattle.sealer_core.specs.Theorem.{IsOfStream, Position, Run};
 
 use crate::laws::no_two_outputs_have_one_prefix;
 use container_core::laws::{containers_differ, opens_exactly_its_container};
@@ -45,16 +45,16 @@ use sqlite_disk::Disk;
 /// of which they have any byte has a nonce. `once`: two chunks with one nonce, of any such outputs, are the same chunk of
 /// the same output of the same run. Nothing is said of secrecy, or of the AEAD's strength.
 pub fn no_nonce_is_used_twice()
-    ensures sealed { (key : List ℕ) (runs : ℕ → List Run) (place : Place) → AreRunsOf key runs
+    ensures sealed { (key : List ℕ) (runs : ℕ → List Run) (place : Position) → AreRunsOf key runs
         → (at : IsOutputAt runs place) → (range : Numbers) × (range.device ≡ place.device)
         × IsKeyedBy key range at.run.written × ∥ IsShape at.shape × ((range.lo ≤ at.number)
         × (at.number < range.lo + range.size)) × ((plain : List ℕ)
         × IsFront at.output.bytes (container key at.shape (prefix_of place.device at.number) plain)) ∥₁ }
-    ensures each { (key : List ℕ) (runs : ℕ → List Run) (place : Place) (chunk : ℕ) → AreRunsOf key runs
+    ensures each { (key : List ℕ) (runs : ℕ → List Run) (place : Position) (chunk : ℕ) → AreRunsOf key runs
         → (at : IsOutputAt runs place) → length (header_of key at.shape (prefix_of place.device at.number))
         + chunk * (size_of at.shape + tag_size) < length at.output.bytes → chunk < 2 ^ 32
         → ∥ ((nonce : List ℕ) × HasChunk key at.output.bytes chunk nonce) ∥₁ }
-    ensures once { (key : List ℕ) (runs : ℕ → List Run) (one other : Place) (chunk another : ℕ) (nonce : List ℕ)
+    ensures once { (key : List ℕ) (runs : ℕ → List Run) (one other : Position) (chunk another : ℕ) (nonce : List ℕ)
         → AreRunsOf key runs → (at : IsOutputAt runs one) → (also : IsOutputAt runs other)
         → HasChunk key at.output.bytes chunk nonce → HasChunk key also.output.bytes another nonce
         → (one ≡ other) × (chunk ≡ another) }

@@ -6,7 +6,6 @@
 ghost use Rattle.std.specs.Prelude.{◌≡◌, ◌⊎◌, false, true};
 ghost use Rattle.std.specs.IoError.{error_kind};
 
-use crate::outputs::folder_and_name;
 use folder_core::FolderFault;
 use std::alloc::Global;
 use std::fs;
@@ -14,7 +13,7 @@ use std::fs::{File, OpenOptions};
 use std::io::{self, ErrorKind, Read};
 use std::os::unix::fs::MetadataExt;
 use std::rt::Files;
-use system_ledger::{LedgerFault, LedgerPath, may_open, read_holdings};
+use system_ledger::{LedgerFault, LedgerPath, folder_and_name, may_open, read_holdings};
 use thiserror::Error;
 
 /// Why a file can't be used. The texts are those that the program prints.
@@ -278,7 +277,7 @@ fn not_opened<R: Files + AllocGlobal>(rt: &R, path: &str, step: Step) -> Cause {
         Cause::HardLink
     } else if is_unusable_log(rt, log, writes) {
         Cause::UnusableLog
-    } else if is_hot(rt, journal) {
+    } else if must_be_played_back(rt, journal) {
         Cause::LeftJournal
     } else {
         by_content(rt, path, log_bytes, step)
@@ -439,7 +438,7 @@ fn is_unusable_log<R: Files>(rt: &R, log: &str, writes: bool) -> bool {
 }
 
 // Whether a journal is there that must be played back: it isn't empty, and its first byte isn't 0.
-fn is_hot<R: Files>(rt: &R, journal: &str) -> bool {
+fn must_be_played_back<R: Files>(rt: &R, journal: &str) -> bool {
     match fs::symlink_metadata(rt, journal) {
         Ok(found) => !found.is_file() || found.len() > 0 && !begins_with(rt, journal, b"\0"),
         Err(_) => false,

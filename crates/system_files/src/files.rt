@@ -3,13 +3,13 @@ ghost use Rattle.std.specs.Prelude.{◌≡◌, true, false};
 
 use crate::cause::Cause;
 use crate::folders::{NewFolders, PRIVATE_FOLDER, SHARED_FOLDER, take_way};
-use crate::input::{FileInput, OneOf, Opened, open_known};
+use crate::input::{FileInput, OneOf, OpenedFile, open_known};
 use crate::names::{Names, Target, path_of, path_shown};
-use crate::outputs::{self, NewOutputs, Output, PRIVATE, SHARED};
+use crate::outputs::{self, NewOutputs, OutputFile, PRIVATE, SHARED};
 use crate::own::{
     FileId, KeptOut, OwnFiles, OwnPaths, STANDARD_INPUT, STANDARD_OUTPUT, regular_at,
 };
-use crate::progress::{Named, Progress, explain_file};
+use crate::progress::{Named, ProgressLine, explain_file};
 use crate::spool::FileSpool;
 use either::Either;
 use folder_core::{FileReader, Folder, FolderFault, Spooled};
@@ -71,7 +71,7 @@ pub struct SystemFiles<'p, 'r, R: Files + AllocGlobal + Clock + Eprint, I: Read 
     /// The mode with which outputs are created. The system takes away what the umask has.
     pub mode: u32,
     /// Counts the bytes read of files. `None` if no progress line was asked for.
-    pub progress: Option<&'p Progress<'r, R>>,
+    pub progress: Option<&'p ProgressLine<'r, R>>,
     /// Whether causes of faults of FILEs are printed.
     pub causes: bool,
     warns_of_changes: bool,
@@ -80,7 +80,7 @@ pub struct SystemFiles<'p, 'r, R: Files + AllocGlobal + Clock + Eprint, I: Read 
     // How outputs are made.
     new_outputs: NewOutputs,
     // The output in hand, if one is.
-    pub(crate) in_hand: Option<ToWrite<Output<R::File>>>,
+    pub(crate) in_hand: Option<ToWrite<OutputFile<R::File>>>,
     // How folders below the target's are made.
     new_folders: NewFolders,
     // How names of files, and of outputs, denote paths.
@@ -106,7 +106,7 @@ impl<'p, 'r, R: Files + AllocGlobal + Clock + Eprint, I: Read + Drop> SystemFile
     pub fn new(
         rt: &'r R,
         input: Option<I>,
-        progress: Option<&'p Progress<'r, R>>,
+        progress: Option<&'p ProgressLine<'r, R>>,
         options: FileOptions<'r>,
     ) -> SystemFiles<'p, 'r, R, I>
         ensures sync { result.sync ≡ options.entry.sync }
@@ -223,7 +223,7 @@ impl<'p, 'r, R: Files + AllocGlobal + Clock + Eprint, I: Read + Drop> SystemFile
     }
 
     // Opens the file of this name, or standard input by its path.
-    fn open_file(&self, is_input: bool, name: &str) -> Result<Opened<R::File>, Cause> {
+    fn open_file(&self, is_input: bool, name: &str) -> Result<OpenedFile<R::File>, Cause> {
         if is_input {
             return open_known(self.rt, STANDARD_INPUT);
         }
@@ -279,7 +279,7 @@ impl<'p, 'r, R: Files + AllocGlobal + Clock + Eprint, I: Read + Drop> SystemFile
         &mut self,
         name: &str,
         file: &mut Option<String>,
-    ) -> Result<Output<R::File>, Cause> {
+    ) -> Result<OutputFile<R::File>, Cause> {
         let Some(path) = path_of(self.rt.alloc(), self.output_names, self.target, name) else {
             return Err(Cause::NoOutputName);
         };
@@ -289,7 +289,7 @@ impl<'p, 'r, R: Files + AllocGlobal + Clock + Eprint, I: Read + Drop> SystemFile
     }
 
     // Gives an output up, and tries to remove it. Why is printed, if it couldn't be written or finished and causes are.
-    pub(crate) fn give_up_output(&self, output: Output<R::File>) -> Result<(), Failed> {
+    pub(crate) fn give_up_output(&self, output: OutputFile<R::File>) -> Result<(), Failed> {
         if let Some((name, cause)) = output.why() {
             explain_file(self.rt, self.progress, name, cause);
         }

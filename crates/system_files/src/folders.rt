@@ -5,7 +5,6 @@
 
 use crate::cause::Cause;
 use crate::names::Target;
-use crate::outputs::folder_and_name;
 use folder_core::first_part;
 use std::alloc::Global;
 use std::fs;
@@ -13,6 +12,7 @@ use std::fs::{DirBuilder, File, Metadata, OpenFile};
 use std::io::ErrorKind;
 use std::os::unix::fs::DirBuilderExt;
 use std::rt::Files;
+use system_ledger::folder_and_name;
 
 /// The mode of a new folder that only its owner may use.
 pub(crate) const PRIVATE_FOLDER: u32 = 0o700;

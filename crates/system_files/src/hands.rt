@@ -4,7 +4,7 @@
 //! time it is taken in hand.
 
 use crate::files::SystemFiles;
-use crate::outputs::{self, Output};
+use crate::outputs::{self, OutputFile};
 use command_core::SealingOutputs;
 use container_core::{Header, Key, Shape};
 use folder_core::{OpeningFolder, Outputs, Whole};
@@ -17,7 +17,7 @@ use std::rt::{Clock, Files};
 impl<'p, 'r, R: Files + AllocGlobal + Clock + Eprint, I: Read + Drop> Outputs
     for SystemFiles<'p, 'r, R, I> {
     // Needs no buffer: each call that writes an output passes one chunk or more.
-    type Handle = Output<R::File>;
+    type Handle = OutputFile<R::File>;
 
     fn allow_container(&mut self, output: Self::Handle, _number: u32, _shape: &Shape) {
         self.in_hand = Some(ToWrite(output));
@@ -36,7 +36,7 @@ impl<'p, 'r, R: Files + AllocGlobal + Clock + Eprint, I: Read + Drop> Outputs
             return Err(Failed);
         };
         let ToWrite(mut output) = output;
-        match outputs::finish(self.rt, &mut output) {
+        match outputs::finish_file(self.rt, &mut output) {
             Ok(()) => Ok(()),
             Err(_) => {
                 self.in_hand = Some(ToWrite(output));

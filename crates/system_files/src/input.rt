@@ -5,7 +5,7 @@ ghost use Rattle.either.specs.Either.{either};
 
 use crate::cause::{Cause, missing};
 use crate::own::{FileId, STANDARD_INPUT, regular_at};
-use crate::progress::{Named, Progress};
+use crate::progress::{Named, ProgressLine};
 use either::Either;
 use folder_core::FileReader;
 use io_core::{Failed, FromRead, Source};
@@ -47,7 +47,7 @@ impl Written {
 
 /// A file that was opened for reading.
 #[derive(Drop)]
-pub(crate) struct Opened<F: Drop> {
+pub(crate) struct OpenedFile<F: Drop> {
     pub(crate) file: F,
     pub(crate) id: FileId,
     pub(crate) is_regular: bool,
@@ -57,7 +57,7 @@ pub(crate) struct Opened<F: Drop> {
 }
 
 /// Opens a file for reading. A directory is refused.
-pub(crate) fn open_known<R: Files>(rt: &R, name: &str) -> Result<Opened<R::File>, Cause> {
+pub(crate) fn open_known<R: Files>(rt: &R, name: &str) -> Result<OpenedFile<R::File>, Cause> {
     let file = match File::open(rt, name) {
         Ok(file) => file,
         Err(error) => return Err(missing(rt, name, &error)),
@@ -70,7 +70,7 @@ pub(crate) fn open_known<R: Files>(rt: &R, name: &str) -> Result<Opened<R::File>
         return Err(Cause::IsFolder);
     }
     let is_regular = metadata.is_file();
-    Ok(Opened {
+    Ok(OpenedFile {
         file,
         id: FileId::of(&metadata),
         is_regular,
@@ -150,7 +150,7 @@ impl<'p, 'r, R: Files + Clock + Eprint, I: Read + Drop> FileInput<'p, 'r, R, I> 
     /// refused.
     pub(crate) fn of_file(
         alloc: Global,
-        opened: Opened<R::File>,
+        opened: OpenedFile<R::File>,
         reads_again: bool,
         warns: bool,
         named: Option<Named<'p, 'r, R>>,
@@ -160,7 +160,7 @@ impl<'p, 'r, R: Files + Clock + Eprint, I: Read + Drop> FileInput<'p, 'r, R, I> 
         ensures length { IfOk result (λ input. input.length ≡ opened.length) }
         ensures cause { IfErr result (λ cause. cause ≡ Cause.OutOfMemory) }
     {
-        let Opened {
+        let OpenedFile {
             file,
             is_regular,
             length,
@@ -259,7 +259,7 @@ impl<R: Files + Clock + Eprint, I: Read + Drop> FileReader for FileInput<'_, '_,
 #[derive(Drop)]
 pub struct OneOf<'p, 'r, R: Clock + Eprint, A: Source + Drop, B: Source + Drop> {
     pub(crate) reader: Either<A, B>,
-    pub(crate) progress: Option<&'p Progress<'r, R>>,
+    pub(crate) progress: Option<&'p ProgressLine<'r, R>>,
 }
 
 impl<R: Clock + Eprint, A: Source + Drop, B: Source + Drop> Source for OneOf<'_, '_, R, A, B> {

@@ -56,7 +56,7 @@ pub fn split_names<'n, R: Files + AllocGlobal>(
     let mut kept = Vec::new(rt.alloc());
     let mut others = Vec::new(rt.alloc());
     for name in names {
-        if is_kept(rt, to, skip, &shared, name) {
+        if has_kept_output(rt, to, skip, &shared, name) {
             kept.push(*name)?;
         } else {
             others.push(*name)?;
@@ -106,7 +106,7 @@ fn shared_keys(
 }
 
 // Whether the FILE of this name is kept.
-fn is_kept<R: Files + AllocGlobal>(
+fn has_kept_output<R: Files + AllocGlobal>(
     rt: &R,
     to: Destination<'_>,
     skip: bool,

@@ -129,7 +129,7 @@ impl<'a, W: Write + Drop> Lines<'a, W> {
 
     // Prints a line in the style, and counts it.
     fn put_line(&mut self, text: &[u8]) -> io::Result<()> {
-        let message = match line_in(text) {
+        let message = match message_in(text) {
             Some(message) if is_line_of(self.style.command, &message) => message,
             _ if self.style.passes_others => return self.writer.write_all(text),
             _ => return Err(io::Error::from(ErrorKind::InvalidData)),
@@ -141,7 +141,7 @@ impl<'a, W: Write + Drop> Lines<'a, W> {
         }
         self.totals.add(&message);
         if let Some(listed) = &mut self.listed {
-            match meet(listed, &message) {
+            match match_listed(listed, &message) {
                 Ok(()) => {}
                 Err(_) => return Err(no_memory()),
             }
@@ -216,7 +216,7 @@ impl<'a, W: Write + Drop> Lines<'a, W> {
 }
 
 // The parts of a line that ends with a line feed.
-fn line_in(text: &[u8]) -> Option<Message<'_>> {
+fn message_in(text: &[u8]) -> Option<Message<'_>> {
     let Ok(text) = from_utf8(text) else {
         return None;
     };
@@ -227,7 +227,7 @@ fn line_in(text: &[u8]) -> Option<Message<'_>> {
 }
 
 // Compares a verified container with the lines.
-fn meet(listed: &mut Listed, message: &Message<'_>) -> Result<(), AllocError> {
+fn match_listed(listed: &mut Listed, message: &Message<'_>) -> Result<(), AllocError> {
     match *message {
         Message::Shown { name, bytes, facts } => {
             match (facts.number.parse::<u32>(), bytes.parse::<u64>()) {

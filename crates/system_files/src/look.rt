@@ -2,7 +2,7 @@
 ghost use Rattle.std.specs.Prelude.{IfErr};
 ghost use Rattle.system_files.specs.Seen.{IsOfLooking};
 
-use crate::seen::{Seen, plain_in, read_seen};
+use crate::seen::{SeenHeader, plain_in, read_seen};
 use command_core::FileFault;
 use container_core::{MAX_HEADER, OpenFault};
 use io_core::{FromRead, fill};
@@ -13,7 +13,10 @@ use std::rt::Files;
 /// Returns what the header of the container at a path says, and how many plaintext bytes the file's length stands for,
 /// if any. Only regular files are read, and of each at most 280 bytes. `CannotOpen` if it can't be opened or is no
 /// regular file; else the header's first fault, or `Read`.
-pub fn look_at<R: Files + AllocGlobal>(rt: &R, path: &str) -> Result<(Seen, Option<u64>), FileFault>
+pub fn header_at<R: Files + AllocGlobal>(
+    rt: &R,
+    path: &str,
+) -> Result<(SeenHeader, Option<u64>), FileFault>
     ensures fault { IfErr result IsOfLooking }
 {
     // It is looked up before it is opened: that would wait for the other end of a pipe.

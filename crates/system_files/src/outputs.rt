@@ -16,6 +16,7 @@ use std::io::{ErrorKind, Read, Write};
 use std::os::unix::fs::OpenOptionsExt;
 use std::rt::{Clock, Files};
 use std::{fs, io};
+use system_ledger::folder_and_name;
 
 /// The mode of a new file that only its owner may read and write.
 pub(crate) const PRIVATE: u32 = 0o600;
@@ -25,7 +26,7 @@ pub(crate) const SHARED: u32 = 0o666;
 
 /// An output being written: its file and, if both are to be synced, the folder with its name.
 #[derive(Drop)]
-pub struct Output<F: Read + Write + Drop> {
+pub struct OutputFile<F: Read + Write + Drop> {
     // The names are made before the file, so that removing them takes no memory.
     path: String,
     part: Option<String>,
@@ -38,9 +39,9 @@ pub struct Output<F: Read + Write + Drop> {
     cause: Option<Cause>,
 }
 
-impl<F: Read + Write + Drop> Place for Output<F> {}
+impl<F: Read + Write + Drop> Place for OutputFile<F> {}
 
-impl<F: Read + Write + Drop> Output<F> {
+impl<F: Read + Write + Drop> OutputFile<F> {
     /// Returns the name of its FILE, if causes are printed, and why it couldn't be written or finished.
     pub(crate) fn why(&self) -> Option<(&str, Cause)> {
         match (&self.name, self.cause) {
@@ -50,7 +51,7 @@ impl<F: Read + Write + Drop> Output<F> {
     }
 }
 
-impl<F: Read + Write + Drop> Write for Output<F> {
+impl<F: Read + Write + Drop> Write for OutputFile<F> {
     ghost contents = { λ output. F.contents output.file };
 
     fn write(&mut self, buf: &[u8]) -> io::Result<usize> {
@@ -95,7 +96,7 @@ impl NewOutputs {
         sync: bool,
         mode: u32,
         file_name: &mut Option<String>,
-    ) -> Result<Output<R::File>, Cause> {
+    ) -> Result<OutputFile<R::File>, Cause> {
         let (folder, name) = folder_and_name(path.as_str());
         let opened = if sync {
             match File::open(rt, folder) {
@@ -107,7 +108,7 @@ impl NewOutputs {
         };
         is_free(rt, path.as_str(), name)?;
         match self.part(rt, folder, name, mode)? {
-            Some((part, file)) => Ok(Output {
+            Some((part, file)) => Ok(OutputFile {
                 path,
                 part: Some(part),
                 is_named: false,
@@ -118,7 +119,7 @@ impl NewOutputs {
             }),
             None => {
                 let file = create_new(rt, path.as_str(), mode)?;
-                Ok(Output {
+                Ok(OutputFile {
                     path,
                     part: None,
                     is_named: true,
@@ -191,15 +192,6 @@ impl NewOutputs {
         let links = has_links(rt, part, second.as_str())?;
         self.links = Some((last, links));
         Ok(links)
-    }
-}
-
-/// Returns the folder and the base name of this path.
-pub(crate) fn folder_and_name(path: &str) -> (&str, &str) {
-    match path.rsplit_once('/') {
-        None => (".", path),
-        Some(("", name)) => ("/", name),
-        Some((folder, name)) => (folder, name),
     }
 }
 
@@ -283,7 +275,7 @@ fn has_links<R: Files>(rt: &R, name: &str, second: &str) -> Result<bool, Cause> 
 
 /// Gives a whole output its name. If `output.folder` is there, the file is synced first and its folder last. On failure
 /// the output keeps the cause.
-pub(crate) fn finish<R: Files>(rt: &R, output: &mut Output<R::File>) -> io::Result<()>
+pub(crate) fn finish_file<R: Files>(rt: &R, output: &mut OutputFile<R::File>) -> io::Result<()>
     ensures file { output.new.file ≡ output.old.file }
 {
     match name_whole(rt, output) {
@@ -296,7 +288,7 @@ pub(crate) fn finish<R: Files>(rt: &R, output: &mut Output<R::File>) -> io::Resu
 }
 
 // The same, without the cause.
-fn name_whole<R: Files>(rt: &R, output: &mut Output<R::File>) -> io::Result<()>
+fn name_whole<R: Files>(rt: &R, output: &mut OutputFile<R::File>) -> io::Result<()>
     ensures file { output.new.file ≡ output.old.file }
 {
     if output.folder.is_some() {
@@ -333,8 +325,8 @@ fn link<R: Files>(rt: &R, file: &R::File, name: &str, second: &str) -> io::Resul
 
 /// Removes an output that isn't whole: closes it and removes its names. A name that another file has by now stays, and
 /// that is a failure.
-pub(crate) fn discard<R: Files>(rt: &R, output: Output<R::File>) -> Result<(), Failed> {
-    let Output {
+pub(crate) fn discard<R: Files>(rt: &R, output: OutputFile<R::File>) -> Result<(), Failed> {
+    let OutputFile {
         path,
         part,
         is_named,

@@ -23,7 +23,7 @@ const MIB: u64 = 1 << 20;
 
 /// What was done so far.
 #[derive(Clone, Copy)]
-struct Done {
+struct Amounts {
     files: u64,
     bytes: u64,
     // When the first bytes were read, and how many they were.
@@ -35,27 +35,27 @@ struct Done {
 
 /// How far a run is.
 #[derive(Drop)]
-pub struct Progress<'r, R: Clock + Eprint> {
+pub struct ProgressLine<'r, R: Clock + Eprint> {
     rt: &'r R,
     // The number of files, and the bytes that all their readings give, if known.
     files: usize,
     bytes: Option<u64>,
-    done: Cell<Done>,
+    done: Cell<Amounts>,
 }
 
-impl<'r, R: Clock + Eprint> Progress<'r, R> {
+impl<'r, R: Clock + Eprint> ProgressLine<'r, R> {
     /// Starts the progress of a run over these files, each of which is read `readings` times: twice by `open`, else
     /// once. It looks up their sizes. Returns `None` if the clock fails.
-    pub fn of(rt: &'r R, how: Names, names: &[&str], readings: u64) -> Option<Progress<'r, R>>
+    pub fn of(rt: &'r R, how: Names, names: &[&str], readings: u64) -> Option<ProgressLine<'r, R>>
     where
         R: Files + AllocGlobal,
     {
         let last = Instant::now(rt).ok()?;
-        Some(Progress {
+        Some(ProgressLine {
             rt,
             files: names.len(),
             bytes: bytes_of(rt, how, names, readings),
-            done: Cell::new(Done {
+            done: Cell::new(Amounts {
                 files: 0,
                 bytes: 0,
                 begun: None,
@@ -114,7 +114,7 @@ impl<'r, R: Clock + Eprint> Progress<'r, R> {
     }
 
     // Draws the line in its present state.
-    fn draw(&self, done: &Done, now: Instant) {
+    fn draw(&self, done: &Amounts, now: Instant) {
         let (begun, first) = done.begun.unwrap_or((now, 0));
         let time = now.saturating_duration_since(begun);
         let (files, all) = (done.files, self.files);
@@ -182,7 +182,7 @@ fn bytes_of<R: Files + AllocGlobal>(
 /// after it. If standard error fails, nothing is printed.
 pub(crate) fn explain_file<R: Clock + Eprint>(
     rt: &R,
-    progress: Option<&Progress<'_, R>>,
+    progress: Option<&ProgressLine<'_, R>>,
     name: &str,
     cause: Cause,
 ) {
@@ -192,7 +192,7 @@ pub(crate) fn explain_file<R: Clock + Eprint>(
 }
 
 // Clears the progress line. Returns whether it was drawn.
-fn cleared<R: Clock + Eprint>(progress: Option<&Progress<'_, R>>) -> bool {
+fn cleared<R: Clock + Eprint>(progress: Option<&ProgressLine<'_, R>>) -> bool {
     match progress {
         Some(progress) => progress.clear(),
         None => false,
@@ -200,7 +200,7 @@ fn cleared<R: Clock + Eprint>(progress: Option<&Progress<'_, R>>) -> bool {
 }
 
 // Draws the progress line again, if it was drawn.
-fn show_again<R: Clock + Eprint>(progress: Option<&Progress<'_, R>>, was_drawn: bool) {
+fn show_again<R: Clock + Eprint>(progress: Option<&ProgressLine<'_, R>>, was_drawn: bool) {
     if let Some(progress) = progress
         && was_drawn
     {
@@ -212,7 +212,7 @@ fn show_again<R: Clock + Eprint>(progress: Option<&Progress<'_, R>>, was_drawn: 
 #[derive(Drop)]
 pub(crate) struct Named<'p, 'r, R: Clock + Eprint> {
     pub(crate) rt: &'r R,
-    pub(crate) progress: Option<&'p Progress<'r, R>>,
+    pub(crate) progress: Option<&'p ProgressLine<'r, R>>,
     pub(crate) name: String,
 }
 
@@ -237,7 +237,7 @@ pub struct Told<'p, 'r, R: Clock + Eprint, W: Write + Drop> {
     /// The stream.
     pub writer: W,
     /// The progress line to clear.
-    pub progress: Option<&'p Progress<'r, R>>,
+    pub progress: Option<&'p ProgressLine<'r, R>>,
     /// Whether each line is that of a file.
     pub of_files: bool,
 }

@@ -57,7 +57,7 @@ impl<R: Source + Drop> Source for Keeping<R> {
 
 /// What a journal says of a number of its range.
 #[derive(Clone, Copy, PartialEq, Eq)]
-enum State {
+enum NumberState {
     /// It isn't settled as sealed.
     Other,
     /// It is, and no container has it yet.
@@ -71,7 +71,7 @@ enum State {
 pub struct SealedNumbers {
     device: u32,
     lo: u32,
-    states: Vec<State>,
+    states: Vec<NumberState>,
 }
 
 impl SealedNumbers {
@@ -87,7 +87,7 @@ impl SealedNumbers {
             return Ok(None);
         };
         let mut states = Vec::new(alloc);
-        states.resize(size as usize, State::Other)?;
+        states.resize(size as usize, NumberState::Other)?;
         let mut sealed = SealedNumbers { device, lo, states };
         for line in rest.split('\n') {
             if let Some((_, number)) = line.split_once(" sealed ") {
@@ -106,7 +106,7 @@ impl SealedNumbers {
             return;
         };
         if let Some(state) = self.states.get_mut(k as usize) {
-            *state = State::Sealed;
+            *state = NumberState::Sealed;
         }
     }
 
@@ -116,10 +116,10 @@ impl SealedNumbers {
             return false;
         }
         let k = (number - self.lo) as usize;
-        if k >= self.states.len() || self.states[k] == State::Other {
+        if k >= self.states.len() || self.states[k] == NumberState::Other {
             return false;
         }
-        self.states[k] = State::Found;
+        self.states[k] = NumberState::Found;
         true
     }
 
@@ -127,7 +127,7 @@ impl SealedNumbers {
     /// container has. With it comes where to go on.
     pub fn missing(&self, from: usize) -> Option<(u32, usize)> {
         for k in from..self.states.len() {
-            if self.states[k] == State::Sealed {
+            if self.states[k] == NumberState::Sealed {
                 return Some((
                     self.lo.saturating_add(u32::try_from(k).unwrap_or(u32::MAX)),
                     k + 1,

@@ -23,7 +23,7 @@ const EXPONENT: u8 = 16;
 
 /// What a header says. Nothing of it was authenticated.
 #[derive(Clone, Copy)]
-pub struct Seen {
+pub struct SeenHeader {
     /// The version, the size of chunks, the device, the number and the label.
     pub facts: Facts,
     /// The key's hint.
@@ -150,7 +150,7 @@ fn chunk_of(header: &[u8]) -> u32
 
 /// Returns what the header at the start of these bytes says; else its first fault. That is the fault of `read_header`
 /// under each key that the header names by its hint. So it is never `KeyMismatch`.
-pub fn read_seen(bytes: &[u8]) -> Result<Seen, OpenFault>
+pub fn read_seen(bytes: &[u8]) -> Result<SeenHeader, OpenFault>
     ensures fault { IfErr result (λ fault. fault_seen bytes.now ≡ Some fault) }
     ensures faultless { OnOk result (fault_seen bytes.now ≡ None) }
     ensures facts { IfOk result (λ seen. IsOfHeader seen.facts (take (header_length bytes.now) bytes.now)) }
@@ -166,7 +166,7 @@ pub fn read_seen(bytes: &[u8]) -> Result<Seen, OpenFault>
             let mut hint = [0; 7];
             hint.copy_from_slice(&bytes[17..24]);
             let facts = facts_of(&bytes[..header_bytes(bytes)]);
-            Ok(Seen { facts, hint })
+            Ok(SeenHeader { facts, hint })
         }
     }
 }

@@ -1,11 +1,11 @@
 //! The lines about headers that were read without a key.
-ghost use Rattle.std.specs.Prelude.{◌<◌, ◌≡◌, Some, false};
-ghost use Rattle.std.specs.Fmt.{WritesOnOk, digit_glyph};
+ghost use Rattle.std.specs.Prelude.{Some};
+ghost use Rattle.std.specs.Fmt.{WritesOnOk};
 ghost use Rattle.command_core.specs.Facts.{label_part};
 ghost use Rattle.system_files.specs.Shown.{alone_text, bytes_text, hex_byte, hex_text};
 
-use crate::seen::Seen;
-use command_core::{Facts, ShownLabel};
+use crate::seen::SeenHeader;
+use command_core::{Facts, ShownLabel, hex_digit};
 use std::fmt;
 use std::fmt::Write;
 
@@ -14,7 +14,7 @@ use std::fmt::Write;
 pub struct Shown<'a> {
     /// The name, as it was given.
     pub name: &'a str,
-    pub seen: Seen,
+    pub seen: SeenHeader,
     /// How many bytes its plaintext has, if there is a container of the file's length.
     pub bytes: Option<u64>,
 }
@@ -112,16 +112,4 @@ fn write_hex_byte<W: Write>(f: &mut fmt::Formatter<W>, byte: u8) -> fmt::Result
 {
     f.write_char(hex_digit(byte / 16))?;
     f.write_char(hex_digit(byte % 16))
-}
-
-fn hex_digit(digit: u8) -> char
-    requires { digit < 16 }
-    ensures value { result ≡ digit_glyph false digit }
-    ensures ascii { result < 128 }
-{
-    char::from(if digit < 10 {
-        b'0' + digit
-    } else {
-        b'a' - 10 + digit
-    })
 }

@@ -16,9 +16,9 @@ abbrev pub IsShut : List ℕ → Type 0
 IsShut log = slice_index log 0 ≡ 0
 
 -- there is a header whose checksum holds once the first byte is set
-abbrev pub HasHeader : List ℕ → Type 0
-HasHeader log = (32 ≤ length log) × IsSigned (slice_set (take 32 log) 0 0x37)
+abbrev pub HasLogHeader : List ℕ → Type 0
+HasLogHeader log = (32 ≤ length log) × IsSigned (slice_set (take 32 log) 0 0x37)
 
 -- It has no room for a frame with a page. It is empty, or of the first round, or was cut off in a write of its header.
 abbrev pub HasOnlyBegun : List ℕ → Type 0
-HasOnlyBegun log = (length log ≤ 56) × ((log ≡ []) ⊎ (IsOfFirstRound log ⊎ (IsShut log × (¬ HasHeader log))))
+HasOnlyBegun log = (length log ≤ 56) × ((log ≡ []) ⊎ (IsOfFirstRound log ⊎ (IsShut log × (¬ HasLogHeader log))))

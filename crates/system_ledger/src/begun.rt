@@ -5,7 +5,7 @@
 //! the log, it begins rounds with other numbers.
 ghost use Rattle.std.specs.Prelude.{◌≡◌, ◌+◌, ◌≤◌, ◌↔◌, length, IsTrue};
 ghost use Rattle.sqlite_wal.specs.Format.{be32, stored_sum, IsSigned};
-ghost use Rattle.system_ledger.specs.Begun.{HasHeader, HasNoFrame, HasOnlyBegun, IsOfFirstRound};
+ghost use Rattle.system_ledger.specs.Begun.{HasLogHeader, HasNoFrame, HasOnlyBegun, IsOfFirstRound};
 
 use sqlite_wal::checksum_of;
 
@@ -47,12 +47,12 @@ pub fn has_only_begun(log: &[u8]) -> bool
 fn is_of_first_round(log: &[u8]) -> bool
     ensures { IsTrue result ↔ IsOfFirstRound log.now }
 {
-    log.len() >= ROUND + 4 && number_at(log, ROUND) == 0xffff_ffff
+    log.len() >= ROUND + 4 && u32_at(log, ROUND) == 0xffff_ffff
 }
 
 // Whether it has a header whose checksum holds once the first byte is set.
 fn has_header(log: &[u8]) -> bool
-    ensures { IsTrue result ↔ HasHeader log.now }
+    ensures { IsTrue result ↔ HasLogHeader log.now }
 {
     if log.len() < HEADER {
         return false;
@@ -82,11 +82,11 @@ fn sum_at(bytes: &[u8], at: usize) -> (u32, u32)
     requires { at + 8 ≤ length bytes.now }
     ensures { result ≡ stored_sum bytes.now at }
 {
-    (number_at(bytes, at), number_at(bytes, at + 4))
+    (u32_at(bytes, at), u32_at(bytes, at + 4))
 }
 
 // The four bytes at `at` as a big-endian number.
-fn number_at(bytes: &[u8], at: usize) -> u32
+fn u32_at(bytes: &[u8], at: usize) -> u32
     requires { at + 4 ≤ length bytes.now }
     ensures { result ≡ be32 bytes.now at }
 {

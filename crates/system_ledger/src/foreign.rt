@@ -98,8 +98,8 @@ fn front_in(front: &[u8]) -> Front {
     if front.len() < ENTRIES + 2 || !front.starts_with(b"SQLite format 3\0") {
         return Front::Unclear;
     }
-    let page = number_at(front, 16);
-    let entries = number_at(front, ENTRIES);
+    let page = u16_at(front, 16);
+    let entries = u16_at(front, ENTRIES);
     let kind = front[KIND];
     if kind == LEAF && entries == 4 && has_both(front) {
         if are_ledgers(front) {
@@ -115,7 +115,7 @@ fn front_in(front: &[u8]) -> Front {
 }
 
 // The two bytes at an offset as a big-endian number.
-fn number_at(front: &[u8], at: usize) -> usize
+fn u16_at(front: &[u8], at: usize) -> usize
     requires { at + 2 ≤ length front.now }
     ensures { result ≡ slice_index front.now at * 0x100 + slice_index front.now (1 + at) }
 {
@@ -143,7 +143,7 @@ fn is_entry(front: &[u8], nth: usize, bytes: &[u8]) -> bool
     if front.len() < pointer + 2 {
         return false;
     }
-    match front.get(number_at(front, pointer)..) {
+    match front.get(u16_at(front, pointer)..) {
         Some(entry) => entry.starts_with(bytes),
         None => false,
     }

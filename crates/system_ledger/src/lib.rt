@@ -20,4 +20,4 @@ pub use crate::turn::{MAX_TRIES, Turn};
 pub use crate::witness::{
     FileMark, Seen, WitnessFault, WitnessRefusal, floor_by, mark_by, may_renew,
 };
-pub use crate::witness_file::{FileWitness, WitnessPath};
+pub use crate::witness_file::{FileWitness, WitnessPath, folder_and_name};

@@ -126,14 +126,14 @@ fn marks_in<S: Alter + Drop>(
 fn read(alloc: Global, rows: &[Row]) -> Result<Vec<Mark>, LedgerFault> {
     let mut marks = Vec::new(alloc);
     for row in rows {
-        if marks.push(mark_of(row)?).is_err() {
+        if marks.push(mark_of_row(row)?).is_err() {
             return Err(LedgerFault::OutOfMemory);
         }
     }
     Ok(marks)
 }
 
-fn mark_of(row: &Row) -> Result<Mark, LedgerFault> {
+fn mark_of_row(row: &Row) -> Result<Mark, LedgerFault> {
     Ok(Mark {
         key: row.get(0)?,
         device: row.get(1)?,

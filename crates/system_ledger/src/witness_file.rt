@@ -222,8 +222,8 @@ fn real_path<R: Files + AllocGlobal>(rt: &R, path: &str) -> Result<String, Alloc
     }
 }
 
-// The folder and the base name of a path.
-fn folder_and_name(path: &str) -> (&str, &str) {
+/// Returns the folder and the base name of a path.
+pub fn folder_and_name(path: &str) -> (&str, &str) {
     match path.rsplit_once('/') {
         None => (".", path),
         Some(("", name)) => ("/", name),
@@ -276,14 +276,14 @@ fn now<R: Clock>(rt: &R) -> u64 {
 fn mark_at<R: Files>(rt: &R, path: &str) -> io::Result<Option<FileMark>> {
     match fs::metadata(rt, path) {
         Ok(found) if found.len() <= 1 => Ok(None),
-        Ok(found) => Ok(Some(mark_of(&found))),
+        Ok(found) => Ok(Some(file_mark_of(&found))),
         Err(error) if error.kind() == ErrorKind::NotFound => Ok(None),
         Err(error) => Err(error),
     }
 }
 
 // The mark of the file with this metadata.
-fn mark_of(metadata: &Metadata) -> FileMark {
+fn file_mark_of(metadata: &Metadata) -> FileMark {
     FileMark {
         device: metadata.dev(),
         inode: metadata.ino(),

@@ -10,9 +10,9 @@ returns-in_default-clause-number c =
 pub returns-in-Some-stands_for-clause-number : goal.returns-in-Some-stands_for-clause-number
 returns-in-Some-stands_for-clause-number c =
     let parts = value_within c.args.processors c.args.most c.args.word.now (Some (c.in-Some.name, c.in-Some.value)) c.in-Some.ensures.cases in
-    c.in-Some-stands_for.ensures ∙ ap (λ takes. stands_for c.args.processors takes c.in-Some.value.now) c.takes_of.ensures ∙ sym parts.0
+    c.in-Some-stands_for.ensures ∙ ap (λ takes. stands_for c.args.processors takes c.in-Some.value.now) c.shorthand_of.ensures ∙ sym parts.0
 
 pub returns-in-None-clause-number : goal.returns-in-None-clause-number
 returns-in-None-clause-number c =
     let parts = value_within c.args.processors c.args.most c.args.word.now (Some (c.in-Some.name, c.in-Some.value)) c.in-Some.ensures.cases in
-    c.in-None.ensures ∙ ap (λ takes. stands_for c.args.processors takes c.in-Some.value.now) c.takes_of.ensures ∙ sym parts.0
+    c.in-None.ensures ∙ ap (λ takes. stands_for c.args.processors takes c.in-Some.value.now) c.shorthand_of.ensures ∙ sym parts.0

@@ -1,6 +1,6 @@
 use Rattle.std.proofs.Common.{arith, ◌≡◌, Some, Ok, Err, ℕ, ◌-◌, ◌*◌, length, get_or, ap, ap₂, sym, ◌∙◌, take}
-use Rattle.command_line.specs.Given.{number_of}
-use Rattle.command_line.specs.Words.{is_number, unit_of}
+use Rattle.command_line.specs.Given.{numeral_value}
+use Rattle.command_line.specs.Words.{is_numeral, unit_of}
 use Rattle.command_line.proofs.Written.{parsed, scaled_empty, scaled_no_unit, scaled_no_number, scaled_is}
 use Rattle.command_line.proofs.words.scaled.Goals as goal
 
@@ -24,7 +24,7 @@ returns-in-Ok c =
     let front : digits ≡ take (length text - 1) text = c.in-Some-split_at_checked.ensures.front ∙ ap (λ n. take n text) (sym last) in
     let read = parsed {E = ℕ} digits (Ok c.in-Ok.number) c.in-Ok.ensures.value.0 in
     ap Some (ap₂ (λ n unit. n * unit) c.from.ensures c.from-in-Ok.ensures)
-    ∙ sym (scaled_is text c.in-Ok.number c.in-Some-unit_of.unit (ap is_number (sym front) ∙ read.0) (read.1 ∙ ap number_of front)
+    ∙ sym (scaled_is text c.in-Ok.number c.in-Some-unit_of.unit (ap is_numeral (sym front) ∙ read.0) (read.1 ∙ ap numeral_value front)
     (ap unit_of at ∙ sym c.in-Some-unit_of.ensures.unit))
 
 pub returns-in-Err : goal.returns-in-Err
@@ -33,4 +33,4 @@ returns-in-Err c =
     let digits = c.in-Some-split_at_checked.digits.now in
     let last : length text - 1 ≡ c.in-Some.last = omega (arith, c.in-Some.ensures) in
     let front : digits ≡ take (length text - 1) text = c.in-Some-split_at_checked.ensures.front ∙ ap (λ n. take n text) (sym last) in
-    sym (scaled_no_number text (ap is_number (sym front) ∙ parsed digits (Err c.in-Err.field-0) c.in-Err.ensures.value.0))
+    sym (scaled_no_number text (ap is_numeral (sym front) ∙ parsed digits (Err c.in-Err.field-0) c.in-Err.ensures.value.0))

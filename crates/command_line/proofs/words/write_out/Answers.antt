@@ -38,9 +38,9 @@ words-preserved c =
           ∙ ap (set texts c.words.i) (sym word ∙ ap (λ r. unwrap_or (option_map string_bytes r) c.as_str-word.result.now) (sym w.in_default-read.is) ∙ c.in_ok-read.ensures)
     ] in
     let other : bytes_eq c.as_str-word.result.now (codes "--") ≡ false = search rules in
-    one_more c.args.processors c.most_bytes-most.result c.words.before c.takes_of-takes.result c.words.i texts (map string_bytes c.match-read.words.items)
+    one_more c.args.processors c.most_bytes-most.result c.words.before c.shorthand_of-takes.result c.words.i texts (map string_bytes c.match-read.words.items)
     (written_out c.args.processors (map string_bytes c.args.words.now.items)) c.as_str-word.result.now c.words.invariant
-    (omega (arith, less, length-map items string_bytes)) word other c.takes_of-takes.ensures put
+    (omega (arith, less, length-map items string_bytes)) word other c.shorthand_of-takes.ensures put
 
 pub returns-then-eq : goal.returns-then-eq
 returns-then-eq c =

@@ -1,6 +1,6 @@
 use Rattle.std.proofs.Common.{◌≡◌, set, refl, ap, ◌∙◌, subst, arith}
 use Rattle.std.proofs.lemmas.List.{get_or_default}
-use Rattle.crew_core.specs.Places.{PlacesView, no_places}
+use Rattle.crew_core.specs.Places.{LanePlacesView, no_places}
 use Rattle.crew_core.proofs.OrderLemmas.{IsOrdering, in_order, next_lane, ordering_next}
 use Rattle.crew_core.proofs.places.put_in_order.Goals as goal
 
@@ -22,7 +22,7 @@ loop-job-preserved c =
       ordering = rw pushed.items (ordering_next c.args.jobs c.loop-job.job lane c.args.places.now left
           (set left lane after) c.loop-job.outcomes.items c.take-outcome.result after c.requires.drawn
           c.loop-job.invariant.ordering below refl
-          (ap (λ (p : PlacesView). p.done) same ∙ c.take-outcome.ensures));
+          (ap (λ (p : LanePlacesView). p.done) same ∙ c.take-outcome.ensures));
       room = rw pushed.capacity c.loop-job.invariant.room;
     }
 

@@ -20,8 +20,8 @@ overflow_add-number g c =
     subst (λ (s : ℕ). chunk_count s (length c.rounds.rest.now) ≡ c.chunks_of_round-count.result + chunk_count s (length c.split_plain.result.1.now)) sized c.split_plain.ensures.counted in
     omega (arith, c.rounds.invariant.numbers, counted, more)
 
-pub make_round-requires-2-clause-ready : goal.make_round-requires-2-clause-ready
-make_round-requires-2-clause-ready g c κs within =
+pub make_and_append-requires-2-clause-ready : goal.make_and_append-requires-2-clause-ready
+make_and_append-requires-2-clause-ready g c κs within =
     let key = c.args.key.now in
     let header = c.args.header.now in
     let size = size_in header in
@@ -50,7 +50,7 @@ rounds-preserved g c =
     let rest = c.rounds.rest.now in
     let bytes = c.split_plain.result.0.now in
     let more = c.split_plain.result.1.now in
-    let values = c.make_round.new.rooms.places.values in
+    let values = c.make_and_append.new.rooms.places.values in
     let sized : c.chunk-size.result ≡ size = c.chunk-size.ensures.value in
     let some : 0 < size = omega (arith, sized, c.chunk-size.ensures.least) in
     let full : length bytes ≡ round * size = c.split_plain.ensures.whole ∙ ap (λ s. round * s) sized in
@@ -60,7 +60,7 @@ rounds-preserved g c =
     let body = stream_by key header number false (chunks size bytes) in
     let behind = stream_by key header (number + round) last (chunks size more) in
     let is : values ≡ values_of Sealing key header number false bytes =
-    c.make_round.ensures.values ∙ ap (λ (r : RoundView). r.values) c.full_round-round.ensures.round in
+    c.make_and_append.ensures.values ∙ ap (λ (r : RoundView). r.values) c.whole_round-round.ensures.round in
     let made : joined values ≡ body = ap joined is ∙ c.rounds_are_sealed.ensures.joined key header number false bytes in
     let parts : stream_by key header number last (chunks size rest) ≡ body ++ behind =
     ap (λ (l : List ℕ). stream_by key header number last (chunks size l)) c.split_plain.ensures.parts
@@ -70,14 +70,14 @@ rounds-preserved g c =
     let front = c.rounds_of_a_stream.ensures.length key header size number last rest some in
     let back = c.rounds_of_a_stream.ensures.length key header size (number + round) last more some in
     let waits = c.rounds.out.items ++ joined c.rounds.rooms.places.values in
-    let items = c.make_round.ensures.items in
-    let grown : length c.make_round.new.out.items ≡ length c.rounds.out.items + length (joined c.rounds.rooms.places.values) =
+    let items = c.make_and_append.ensures.items in
+    let grown : length c.make_and_append.new.out.items ≡ length c.rounds.out.items + length (joined c.rounds.rooms.places.values) =
     ap (λ (l : List ℕ). length l) items ∙ length-append c.rounds.out.items (joined c.rounds.rooms.places.values) in
     record {
-      done = sealed-next waits c.make_round.new.out.items body behind (stream_by key header number last (chunks size rest)) (joined values)
+      done = sealed-next waits c.make_and_append.new.out.items body behind (stream_by key header number last (chunks size rest)) (joined values)
           (c.args.out.now.items ++ stream_by key header c.args.first last (chunks size c.args.plain.now)) items made parts before.done;
-      fits = omega (arith, before.fits, c.make_round.ensures.room, grown, long, both, front, back, c.rounds.out.ok.0, c.make_round.new.out.ok.0, made);
+      fits = omega (arith, before.fits, c.make_and_append.ensures.room, grown, long, both, front, back, c.rounds.out.ok.0, c.make_and_append.new.out.ok.0, made);
       few = omega (arith, before.few, all);
       numbers = omega (arith, before.numbers, counted);
-      ready = c.make_round.ensures.ready Sealing size _ (can-less Sealing size _ _ _ _ (omega (arith, counted)) before.ready);
+      ready = c.make_and_append.ensures.ready Sealing size _ (can-less Sealing size _ _ _ _ (omega (arith, counted)) before.ready);
     }

@@ -14,18 +14,18 @@ returns-in-Err-clause-memory g c = λ memory.
     let early : early_fault c.args.key.now MAX_OPENED bytes ≡ Some OutOfMemory = cc (c.in-Err.ensures.fault, memory) in
     absurd (c.opening_faults.ensures c.args.key.now bytes MAX_OPENED OutOfMemory (opening-fault c.args.key.now bytes MAX_OPENED OutOfMemory early))
 
-pub returns-in-Ok-open_rounds-clause-plaintext : goal.returns-in-Ok-open_rounds-clause-plaintext
-returns-in-Ok-open_rounds-clause-plaintext g c =
+pub returns-in-Ok-open_in_rounds-clause-plaintext : goal.returns-in-Ok-open_in_rounds-clause-plaintext
+returns-in-Ok-open_in_rounds-clause-plaintext g c =
     opening-round c.args.key.now c.args.container.now c.in-Ok.begun.0 c.split_at.result.1.now c.in-Ok.begun.1.size MAX_OPENED _
     c.in-Ok.ensures.faultless c.in-Ok.ensures.header c.in-Ok.ensures.named
     (rest-behind c.args.container.now c.in-Ok.begun.0 c.split_at.result.1.now c.in-Ok.ensures.header (omega (arith, c.in-Ok.ensures.cut))
     (c.split_at.ensures.back ∙ ap (λ (l : List ℕ). drop (length l) c.args.container.now) c.bytes.ensures.bytes))
-    (c.rounds_open.ensures.whole c.args.key.now c.in-Ok.begun.0 0) c.in-Ok-open_rounds.ensures.opened
+    (c.rounds_open.ensures.whole c.args.key.now c.in-Ok.begun.0 0) c.in-Ok-open_in_rounds.ensures.opened
 
-pub returns-in-Err-open_rounds-clause-fault : goal.returns-in-Err-open_rounds-clause-fault
-returns-in-Err-open_rounds-clause-fault g c = inr
+pub returns-in-Err-open_in_rounds-clause-fault : goal.returns-in-Err-open_in_rounds-clause-fault
+returns-in-Err-open_in_rounds-clause-fault g c = inr
     (opening-round c.args.key.now c.args.container.now c.in-Ok.begun.0 c.split_at.result.1.now c.in-Ok.begun.1.size MAX_OPENED _
     c.in-Ok.ensures.faultless c.in-Ok.ensures.header c.in-Ok.ensures.named
     (rest-behind c.args.container.now c.in-Ok.begun.0 c.split_at.result.1.now c.in-Ok.ensures.header (omega (arith, c.in-Ok.ensures.cut))
     (c.split_at.ensures.back ∙ ap (λ (l : List ℕ). drop (length l) c.args.container.now) c.bytes.ensures.bytes))
-    (c.rounds_open.ensures.whole c.args.key.now c.in-Ok.begun.0 0) c.in-Err-open_rounds.ensures.refused)
+    (c.rounds_open.ensures.whole c.args.key.now c.in-Ok.begun.0 0) c.in-Err-open_in_rounds.ensures.refused)

@@ -1,7 +1,7 @@
 use Rattle.std.proofs.Common.{◌<◌, ◌≤◌, [], length, get_or, sym, ap, ◌∙◌, subst}
 use Rattle.std.specs.Prelude.{map}
 use Rattle.std.proofs.lemmas.List.{get_or-map, length-map}
-use Rattle.crew_core.specs.Lanes.{IsStep}
+use Rattle.crew_core.specs.Lanes.{IsLaneStep}
 use Rattle.crew_core.proofs.lanes.Batch.seal_job.Goals as goal
 
 pub sealed_job-requires-clause-short : goal.sealed_job-requires-clause-short
@@ -22,5 +22,5 @@ returns c =
     let low : n < length (map (λ j. j.items) jobs) = subst (λ js. n < length js) (sym (ap (λ b. b.jobs) c.self.view_is)) c.requires.job in
     let inside : n < length jobs = rw (length-map jobs (λ j. j.items)) at low in
     let same = get_or-map (λ j. j.items) jobs n job [] inside ∙ sym c.as_slice.ensures.value in
-    subst (λ b. IsStep b.key b.shape (get_or b.jobs n []) c.args.lane c.args.seat.now c.sealed_job.new.seat c.sealed_job.result) c.self.view_is
-    (subst (λ j. IsStep c.self.inside.key.now c.self.inside.shape.now j c.args.lane c.args.seat.now c.sealed_job.new.seat c.sealed_job.result) (sym same) c.sealed_job.ensures)
+    subst (λ b. IsLaneStep b.key b.shape (get_or b.jobs n []) c.args.lane c.args.seat.now c.sealed_job.new.seat c.sealed_job.result) c.self.view_is
+    (subst (λ j. IsLaneStep c.self.inside.key.now c.self.inside.shape.now j c.args.lane c.args.seat.now c.sealed_job.new.seat c.sealed_job.result) (sym same) c.sealed_job.ensures)

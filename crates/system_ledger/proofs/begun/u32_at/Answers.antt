@@ -1,6 +1,6 @@
 use Rattle.std.proofs.Common.{refl}
 use Rattle.sqlite_wal.specs.Format.{be32}
-use Rattle.system_ledger.proofs.begun.number_at.Goals as goal
+use Rattle.system_ledger.proofs.begun.u32_at.Goals as goal
 
 pub returns : goal.returns
 unfolding be32

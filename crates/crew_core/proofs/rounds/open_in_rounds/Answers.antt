@@ -11,7 +11,7 @@ use Rattle.worker_core.specs.Values.{round_of, values_of}
 use Rattle.worker_core.specs.Views.{RoundView}
 use Rattle.crew_core.specs.Rounds.{CanMake, round_count}
 use Rattle.crew_core.proofs.RoundLemmas.{can-less, opened-next, opened-not, round-body, sealed-within}
-use Rattle.crew_core.proofs.rounds.open_rounds.Goals as goal
+use Rattle.crew_core.proofs.rounds.open_in_rounds.Goals as goal
 
 pub rounds-init : goal.rounds-init
 rounds-init g c =
@@ -60,8 +60,8 @@ of-cut-requires g c =
     let bytes : round * c.chunk-size.result ≡ round * size = ap (λ s. round * s) sized in
     omega (arith, less, bytes, c.chunks_of_round-count.ensures.bytes)
 
-pub make_round-requires-2-clause-ready : goal.make_round-requires-2-clause-ready
-make_round-requires-2-clause-ready g c κs within =
+pub make_and_append-requires-2-clause-ready : goal.make_and_append-requires-2-clause-ready
+make_and_append-requires-2-clause-ready g c κs within =
     let key = c.args.key.now in
     let header = c.args.header.now in
     let size = c.args.cut.size in
@@ -92,19 +92,19 @@ append_pieces-requires g c =
     let size = c.args.cut.size in
     let number = c.rounds.number in
     let rest = c.rounds.rest.now in
-    let values = c.make_round-2.new.rooms.places.values in
+    let values = c.make_and_append-2.new.rooms.places.values in
     let sized : c.chunk-size.result ≡ size = c.chunk-size.ensures.value ∙ sym c.requires.size in
     let some : 0 < size = omega (arith, sized, c.chunk-size.ensures.least) in
     let is : values ≡ values_of Opening key header number true rest =
-    c.make_round-2.ensures.values ∙ ap (λ (r : RoundView). r.values) c.new-round.ensures in
+    c.make_and_append-2.ensures.values ∙ ap (λ (r : RoundView). r.values) c.new-round.ensures in
     let opens : unsealed_by key header number true (sealed_chunks size rest) ≡ Ok (joined values) =
     ap (λ (s : ℕ). unsealed_by key header number true (sealed_chunks s rest)) c.requires.size
     ∙ sym (c.rounds_are_opened.ensures key header number true rest)
-    ∙ ap (λ (v : List (Option (List ℕ))). named number (answer v)) (sym is) ∙ c.in-Ok-checked.ensures.ok in
+    ∙ ap (λ (v : List (Option (List ℕ))). named number (answer v)) (sym is) ∙ c.in-Ok-all_checked.ensures.ok in
     let long : length (joined values) ≡ c.rounds.plain = c.rounds_open.ensures.length key header size number true rest (joined values) c.rounds.plain some before.rest opens in
-    let grown : length c.make_round-2.new.out.items ≡ length c.rounds.out.items + length (joined c.rounds.rooms.places.values) =
-    ap (λ (l : List ℕ). length l) c.make_round-2.ensures.items ∙ length-append c.rounds.out.items (joined c.rounds.rooms.places.values) in
-    record { room = omega (arith, before.fits, c.make_round-2.ensures.room, grown, long, c.rounds.out.ok.0, c.make_round-2.new.out.ok.0) }
+    let grown : length c.make_and_append-2.new.out.items ≡ length c.rounds.out.items + length (joined c.rounds.rooms.places.values) =
+    ap (λ (l : List ℕ). length l) c.make_and_append-2.ensures.items ∙ length-append c.rounds.out.items (joined c.rounds.rooms.places.values) in
+    record { room = omega (arith, before.fits, c.make_and_append-2.ensures.room, grown, long, c.rounds.out.ok.0, c.make_and_append-2.new.out.ok.0) }
 
 pub returns-in-Err-clause-refused : goal.returns-in-Err-clause-refused
 returns-in-Err-clause-refused g c =
@@ -119,8 +119,8 @@ returns-in-Err-clause-refused g c =
     let round = c.chunks_of_round-count.result in
     let sized : c.chunk-size.result ≡ size = c.chunk-size.ensures.value ∙ sym c.requires.size in
     let full : length bytes ≡ round * (size + 16) = c.split_sealed.ensures.whole ∙ ap (λ s. round * (s + 16)) sized in
-    let values : c.make_round.new.rooms.places.values ≡ values_of Opening key header number false bytes =
-    c.make_round.ensures.values ∙ ap (λ (r : RoundView). r.values) c.full_round-round.ensures.round in
+    let values : c.make_and_append.new.rooms.places.values ≡ values_of Opening key header number false bytes =
+    c.make_and_append.ensures.values ∙ ap (λ (r : RoundView). r.values) c.whole_round-round.ensures.round in
     let refused : unsealed_by key header number false (sealed_chunks size bytes) ≡ Err (Forged c.in-Err.chunk) =
     ap (λ (s : ℕ). unsealed_by key header number false (sealed_chunks s bytes)) c.requires.size
     ∙ sym (c.rounds_are_opened.ensures key header number false bytes)
@@ -142,7 +142,7 @@ rounds-preserved g c =
     let bytes = c.split_sealed.result.0.now in
     let more = c.split_sealed.result.1.now in
     let round = c.chunks_of_round-count.result in
-    let values = c.make_round.new.rooms.places.values in
+    let values = c.make_and_append.new.rooms.places.values in
     let left = c.rounds.plain - round * size in
     let sized : c.chunk-size.result ≡ size = c.chunk-size.ensures.value ∙ sym c.requires.size in
     let some : 0 < size = omega (arith, sized, c.chunk-size.ensures.least) in
@@ -157,7 +157,7 @@ rounds-preserved g c =
     subst (λ (s : ℕ). length more ≡ body_length s (c.rounds.plain - round * s)) sized c.split_sealed.ensures.left in
     let less : c.rounds.plain - round * c.chunk-size.result ≡ left = ap (λ s. c.rounds.plain - round * s) sized in
     let is : values ≡ values_of Opening key header number false bytes =
-    c.make_round.ensures.values ∙ ap (λ (r : RoundView). r.values) c.full_round-round.ensures.round in
+    c.make_and_append.ensures.values ∙ ap (λ (r : RoundView). r.values) c.whole_round-round.ensures.round in
     let opens : unsealed_by key header number false (sealed_chunks size bytes) ≡ Ok (joined values) =
     ap (λ (s : ℕ). unsealed_by key header number false (sealed_chunks s bytes)) c.requires.size
     ∙ sym (c.rounds_are_opened.ensures key header number false bytes)
@@ -168,17 +168,17 @@ rounds-preserved g c =
     ∙ c.rounds_open.ensures.opened key header size number true bytes more (joined values) round full c.chunks_of_round-count.ensures.some c.split_sealed.ensures.more opens in
     let long : length (joined values) ≡ round * size =
     c.rounds_open.ensures.length key header size number false bytes (joined values) (round * size) some whole opens in
-    let items = c.make_round.ensures.items in
-    let grown : length c.make_round.new.out.items ≡ length c.rounds.out.items + length (joined c.rounds.rooms.places.values) =
+    let items = c.make_and_append.ensures.items in
+    let grown : length c.make_and_append.new.out.items ≡ length c.rounds.out.items + length (joined c.rounds.rooms.places.values) =
     ap (λ (l : List ℕ). length l) items ∙ length-append c.rounds.out.items (joined c.rounds.rooms.places.values) in
     record {
-      done = opened-next (c.rounds.out.items ++ joined c.rounds.rooms.places.values) c.make_round.new.out.items (joined values) next
+      done = opened-next (c.rounds.out.items ++ joined c.rounds.rooms.places.values) c.make_and_append.new.out.items (joined values) next
           (unsealed_by key header number true (sealed_chunks size rest)) _ items parts before.done;
-      fits = omega (arith, before.fits, c.make_round.ensures.room, grown, long, fits, less, c.rounds.out.ok.0, c.make_round.new.out.ok.0);
+      fits = omega (arith, before.fits, c.make_and_append.ensures.room, grown, long, fits, less, c.rounds.out.ok.0, c.make_and_append.new.out.ok.0);
       rest = behind_it ∙ ap (λ (n : ℕ). body_length size n) (sym less);
       numbers = let same : chunk_count size (c.rounds.plain - round * c.chunk-size.result) ≡ chunk_count size left = ap (λ (n : ℕ). chunk_count size n) less in
           omega (arith, before.numbers, counted, same);
-      ready = c.make_round.ensures.ready Opening size _
+      ready = c.make_and_append.ensures.ready Opening size _
           (let same : chunk_count size (c.rounds.plain - round * c.chunk-size.result) ≡ chunk_count size left = ap (λ (n : ℕ). chunk_count size n) less in
           can-less Opening size _ _ _ _ (omega (arith, counted, same)) before.ready);
     }

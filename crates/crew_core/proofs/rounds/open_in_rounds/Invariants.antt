@@ -5,7 +5,7 @@ use Rattle.container_core.specs.Opening.{behind, unsealed_by}
 use Rattle.worker_core.specs.declared.round.Task.TheVariants.{Opening}
 use Rattle.worker_core.specs.Answer.{joined}
 use Rattle.crew_core.specs.Rounds.{CanMake, round_count}
-use Rattle.crew_core.proofs.rounds.open_rounds.Given as goal
+use Rattle.crew_core.proofs.rounds.open_in_rounds.Given as goal
 
 abbrev pub invariant-rounds : goal.invariant-rounds
 invariant-rounds g l = record {

@@ -1,6 +1,6 @@
 use Rattle.std.proofs.Common.{rules, ◌≡◌, Some, sym}
 use Rattle.worker_core.specs.Answer.{first_refused}
-use Rattle.crew_core.proofs.rounds.checked.Goals as goal
+use Rattle.crew_core.proofs.rounds.all_checked.Goals as goal
 
 pub overflow_add-result : goal.overflow_add-result
 overflow_add-result c =
