@@ -1,10 +1,14 @@
 -- What the options of the command line ask for.
-use Rattle.std.specs.Prelude.{◌≡◌, Bool, true, false, ◌+◌, ℕ, List, [], Option, Some, None, codes, bytes_eq, count_by, if◌then◌else◌}
+use Rattle.std.specs.Prelude.{◌≡◌, ◌≤◌, ◌⊎◌, Bool, true, false, not, ◌+◌, ℕ, List, [], Option, Some, None, codes, bytes_eq}
+use Rattle.std.specs.Prelude.{count_by, if◌then◌else◌, option_map, unwrap_or}
 use Rattle.std.specs.Bool.{⊤}
 use Rattle.std.specs.Borrow.{Bor}
 use Rattle.container_core.specs.Shape.{ShapeView, one, two}
 use Rattle.clap.specs.declared.parser.matches.ArgMatches.{ArgMatches}
-use Rattle.command_line.specs.Given.{IsFlag}
+use Rattle.clap.specs.Matches.{first_value, found_of}
+use Rattle.command_line.specs.Given.{IsFlag, number_given}
+use Rattle.command_line.specs.declared.given.TheConstants.{DEFAULT_WAIT, MAX_WAIT}
+use Rattle.command_line.specs.declared.sealing.RunRequest.{RunRequest}
 use Rattle.command_line.specs.declared.names.Naming.{Naming}
 use Rattle.command_line.specs.declared.names.Naming.TheVariants.{KeepGoing, Quoted, Plain}
 use Rattle.command_line.specs.declared.fault.UsageFault.{UsageFault}
@@ -18,6 +22,20 @@ shape_asked None None = one
 shape_asked (Some exponent) None = two exponent []
 shape_asked None (Some label) = two 16 label
 shape_asked (Some exponent) (Some label) = two exponent label
+
+-- The options ask for this run of `seal` or `pipe`.
+pub record IsRunAsked (matches : ArgMatches) (run : RunRequest) : Type 0 where
+  pub key : Some run.key.now ≡ first_value (found_of matches) (codes "key")
+  pub ledger : Some run.ledger.now ≡ first_value (found_of matches) (codes "ledger")
+  pub may_make : IsFlag matches (codes "no-new-ledger") (not run.may_make)
+  pub wait : run.wait ≡ unwrap_or (number_given matches (codes "wait")) DEFAULT_WAIT
+  pub short_wait : run.wait ≤ MAX_WAIT
+  pub device : number_given matches (codes "device") ≡ Some run.device
+  pub witness : option_map (λ witness. witness.now) run.witness ≡ first_value (found_of matches) (codes "witness")
+  pub new_witness : IsFlag matches (codes "new-witness") run.new_witness
+  pub journal : option_map (λ journal. journal.now) run.journal ≡ first_value (found_of matches) (codes "journal")
+  pub journal_in : option_map (λ folder. folder.now) run.journal_in ≡ first_value (found_of matches) (codes "journal-in")
+  pub one_journal : (run.journal ≡ None) ⊎ (run.journal_in ≡ None)
 
 -- how many of these files are `-`, which is standard input
 abbrev pub dashes : List (Bor (List ℕ)) → ℕ

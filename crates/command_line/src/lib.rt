@@ -33,6 +33,8 @@ pub use crate::opening::{OpenRequest, Reading, UnpipeRequest, open_request, unpi
 pub use crate::printing::{
     Printing, Showing, against_asked, printing_asked, showing_asked, verbose_asked,
 };
-pub use crate::sealing::{DEFAULT_EXPONENT, PipeRequest, SealRequest, pipe_request, seal_request};
+pub use crate::sealing::{
+    DEFAULT_EXPONENT, PipeRequest, RunRequest, SealRequest, pipe_request, seal_request,
+};
 pub use crate::version::VERSION;
 pub use crate::words::{asks_for_processors, write_out};

@@ -4,7 +4,7 @@ ghost use Rattle.std.specs.Prelude.{length, not, option_map, unwrap_or};
 ghost use Rattle.clap.specs.Matches.{first_value, found_of};
 ghost use Rattle.container_core.specs.Shape.{IsShape, IsShort, size_of};
 ghost use Rattle.claim_core.specs.Window.{usual};
-ghost use Rattle.command_line.specs.Asked.{shape_asked};
+ghost use Rattle.command_line.specs.Asked.{IsRunAsked, shape_asked};
 ghost use Rattle.command_line.specs.Given.{IsFlag, number_given};
 
 use crate::fault::UsageFault;
@@ -20,9 +20,9 @@ use ledger_core::Device;
 /// The exponent of the chunk size if only a label is given: chunks of 65,536 bytes.
 pub const DEFAULT_EXPONENT: u32 = 16;
 
-/// A request of `seal`.
-#[derive(Drop)]
-pub struct SealRequest<'m, 'a> {
+/// Under what a run of `seal` or `pipe` seals, and what it records of that.
+#[derive(Clone, Copy)]
+pub struct RunRequest<'a> {
     pub key: &'a str,
     pub ledger: &'a str,
     /// Whether a ledger file is made if there is none.
@@ -34,6 +34,52 @@ pub struct SealRequest<'m, 'a> {
     pub witness: Option<&'a str>,
     /// Whether the witness is made, or takes another ledger file for its own.
     pub new_witness: bool,
+    pub journal: Option<&'a str>,
+    /// The folder in which the journal gets a name of its own, if one is given.
+    pub journal_in: Option<&'a str>,
+}
+
+// What a run of `seal` or `pipe` is asked for, under these numbers.
+fn run_request<'a>(
+    matches: &ArgMatches<'a>,
+    wait: u32,
+    device: Device,
+) -> Result<RunRequest<'a>, UsageFault>
+    requires wait { wait ≡ unwrap_or (number_given matches.now (codes "wait")) DEFAULT_WAIT }
+    requires short_wait { wait ≤ MAX_WAIT }
+    requires device { number_given matches.now (codes "device") ≡ Some device }
+    ensures asked { IfOk result (IsRunAsked matches.now) }
+    ensures fault { result ≢ Err UsageFault.LabelTooLong }
+    ensures journals { result ≡ Err UsageFault.TwoJournals
+        → first_value (found_of matches.now) (codes "journal") ≢ None }
+    ensures journals_in { result ≡ Err UsageFault.TwoJournals
+        → first_value (found_of matches.now) (codes "journal-in") ≢ None }
+{
+    let (Some(key), Some(ledger)) = (matches.get_str("key"), matches.get_str("ledger")) else {
+        return Err(UsageFault::Missing);
+    };
+    let (journal, journal_in) = (matches.get_str("journal"), matches.get_str("journal-in"));
+    if journal.is_some() && journal_in.is_some() {
+        return Err(UsageFault::TwoJournals);
+    }
+    Ok(RunRequest {
+        key,
+        ledger,
+        may_make: !matches.get_flag("no-new-ledger"),
+        wait,
+        device,
+        witness: matches.get_str("witness"),
+        new_witness: matches.get_flag("new-witness"),
+        journal,
+        journal_in,
+    })
+}
+
+/// A request of `seal`.
+#[derive(Drop)]
+pub struct SealRequest<'m, 'a> {
+    /// Under what it seals, and what it records of that.
+    pub run: RunRequest<'a>,
     pub files: &'m [&'m str],
     pub workers: u32,
     pub lanes: u32,
@@ -41,9 +87,6 @@ pub struct SealRequest<'m, 'a> {
     pub window: u32,
     /// The most plaintext bytes of a file.
     pub max_bytes: u64,
-    pub journal: Option<&'a str>,
-    /// The folder in which the journal gets a name of its own, if one is given.
-    pub journal_in: Option<&'a str>,
     /// The shape of the containers: version, chunk size, label.
     pub shape: Shape,
     /// The folder into which the outputs go, if one is given.
@@ -65,22 +108,7 @@ pub fn seal_request<'m, 'a>(
     matches: &ArgMatches<'a>,
     files: &'m [&'m str],
 ) -> Result<SealRequest<'m, 'a>, UsageFault>
-    ensures key { IfOk result (λ request. Some request.key.now ≡ first_value (found_of matches.now) (codes "key")) }
-    ensures ledger { IfOk result (λ request. Some request.ledger.now
-        ≡ first_value (found_of matches.now) (codes "ledger")) }
-    ensures may_make { IfOk result (λ request. IsFlag matches.now (codes "no-new-ledger") (not request.may_make)) }
-    ensures wait { IfOk result (λ request. request.wait ≤ MAX_WAIT) }
-    ensures wait_given { IfOk result (λ request. request.wait
-        ≡ unwrap_or (number_given matches.now (codes "wait")) DEFAULT_WAIT) }
-    ensures device { IfOk result (λ request. number_given matches.now (codes "device") ≡ Some request.device) }
-    ensures witness { IfOk result (λ request. option_map (λ witness. witness.now) request.witness
-        ≡ first_value (found_of matches.now) (codes "witness")) }
-    ensures new_witness { IfOk result (λ request. IsFlag matches.now (codes "new-witness") request.new_witness) }
-    ensures journal { IfOk result (λ request. option_map (λ journal. journal.now) request.journal
-        ≡ first_value (found_of matches.now) (codes "journal")) }
-    ensures journal_in { IfOk result (λ request. option_map (λ folder. folder.now) request.journal_in
-        ≡ first_value (found_of matches.now) (codes "journal-in")) }
-    ensures one_journal { IfOk result (λ request. (request.journal ≡ None) ⊎ (request.journal_in ≡ None)) }
+    ensures run { IfOk result (λ request. IsRunAsked matches.now request.run) }
     ensures files { IfOk result (λ request. (request.files.now ≡ files.now) × (0 < length request.files.now)) }
     ensures workers { IfOk result (λ request. (0 < request.workers) × (request.workers ≤ MAX_WORKERS)) }
     ensures workers_given { IfOk result (λ request. request.workers
@@ -113,9 +141,6 @@ pub fn seal_request<'m, 'a>(
     ensures journals_in { result ≡ Err UsageFault.TwoJournals
         → first_value (found_of matches.now) (codes "journal-in") ≢ None }
 {
-    let (Some(key), Some(ledger)) = (matches.get_str("key"), matches.get_str("ledger")) else {
-        return Err(UsageFault::Missing);
-    };
     let numbers = match seal_numbers(matches) {
         Ok(numbers) => numbers,
         Err(fault) => return Err(fault),
@@ -127,22 +152,16 @@ pub fn seal_request<'m, 'a>(
     if workers > 1 && lanes > 1 {
         return Err(UsageFault::LanesAndWorkers);
     }
-    let (journal, journal_in) = (matches.get_str("journal"), matches.get_str("journal-in"));
-    if journal.is_some() && journal_in.is_some() {
-        return Err(UsageFault::TwoJournals);
-    }
+    let run = match run_request(matches, numbers.wait, numbers.device) {
+        Ok(run) => run,
+        Err(fault) => return Err(fault),
+    };
     let shape = match shape_of(numbers.exponent, matches.get_str("label")) {
         Ok(shape) => shape,
         Err(fault) => return Err(fault),
     };
     Ok(SealRequest {
-        key,
-        ledger,
-        may_make: !matches.get_flag("no-new-ledger"),
-        wait: numbers.wait,
-        device: numbers.device,
-        witness: matches.get_str("witness"),
-        new_witness: matches.get_flag("new-witness"),
+        run,
         files,
         workers,
         lanes,
@@ -150,8 +169,6 @@ pub fn seal_request<'m, 'a>(
             .window
             .unwrap_or(usual_window(shape.chunk(), workers)),
         max_bytes: numbers.max_bytes,
-        journal,
-        journal_in,
         shape,
         into: matches.get_str("into"),
         parents: matches.get_flag("parents"),
@@ -164,25 +181,13 @@ pub fn seal_request<'m, 'a>(
 /// A request of `pipe`.
 #[derive(Drop)]
 pub struct PipeRequest<'a> {
-    pub key: &'a str,
-    pub ledger: &'a str,
-    /// Whether a ledger file is made if there is none.
-    pub may_make: bool,
-    /// For how many seconds a run waits if another run holds the ledger file.
-    pub wait: u32,
-    pub device: Device,
-    /// The path of the ledger's witness, if there is to be one.
-    pub witness: Option<&'a str>,
-    /// Whether the witness is made, or takes another ledger file for its own.
-    pub new_witness: bool,
+    /// Under what it seals, and what it records of that.
+    pub run: RunRequest<'a>,
     pub workers: u32,
     /// The most chunks that are read and not yet written.
     pub depth: u32,
     /// The most chunks of the stream.
     pub max_chunks: u32,
-    pub journal: Option<&'a str>,
-    /// The folder in which the journal gets a name of its own, if one is given.
-    pub journal_in: Option<&'a str>,
     /// The shape of the container: version, chunk size, label.
     pub shape: Shape,
     /// Whether the container may be written to a terminal.
@@ -192,22 +197,7 @@ pub struct PipeRequest<'a> {
 /// Returns the request of `pipe`. Errors, in this order: `TwoJournals` if a path and a folder are given for the journal,
 /// `LabelTooLong` if the label has more than 255 bytes.
 pub fn pipe_request<'a>(matches: &ArgMatches<'a>) -> Result<PipeRequest<'a>, UsageFault>
-    ensures key { IfOk result (λ request. Some request.key.now ≡ first_value (found_of matches.now) (codes "key")) }
-    ensures ledger { IfOk result (λ request. Some request.ledger.now
-        ≡ first_value (found_of matches.now) (codes "ledger")) }
-    ensures may_make { IfOk result (λ request. IsFlag matches.now (codes "no-new-ledger") (not request.may_make)) }
-    ensures wait { IfOk result (λ request. request.wait ≤ MAX_WAIT) }
-    ensures wait_given { IfOk result (λ request. request.wait
-        ≡ unwrap_or (number_given matches.now (codes "wait")) DEFAULT_WAIT) }
-    ensures device { IfOk result (λ request. number_given matches.now (codes "device") ≡ Some request.device) }
-    ensures witness { IfOk result (λ request. option_map (λ witness. witness.now) request.witness
-        ≡ first_value (found_of matches.now) (codes "witness")) }
-    ensures new_witness { IfOk result (λ request. IsFlag matches.now (codes "new-witness") request.new_witness) }
-    ensures journal { IfOk result (λ request. option_map (λ journal. journal.now) request.journal
-        ≡ first_value (found_of matches.now) (codes "journal")) }
-    ensures journal_in { IfOk result (λ request. option_map (λ folder. folder.now) request.journal_in
-        ≡ first_value (found_of matches.now) (codes "journal-in")) }
-    ensures one_journal { IfOk result (λ request. (request.journal ≡ None) ⊎ (request.journal_in ≡ None)) }
+    ensures run { IfOk result (λ request. IsRunAsked matches.now request.run) }
     ensures workers { IfOk result (λ request. (0 < request.workers) × (request.workers ≤ MAX_WORKERS)) }
     ensures workers_given { IfOk result (λ request. request.workers
         ≡ unwrap_or (number_given matches.now (codes "workers")) DEFAULT_WORKERS) }
@@ -230,34 +220,23 @@ pub fn pipe_request<'a>(matches: &ArgMatches<'a>) -> Result<PipeRequest<'a>, Usa
     ensures journals_in { result ≡ Err UsageFault.TwoJournals
         → first_value (found_of matches.now) (codes "journal-in") ≢ None }
 {
-    let (Some(key), Some(ledger)) = (matches.get_str("key"), matches.get_str("ledger")) else {
-        return Err(UsageFault::Missing);
-    };
     let numbers = match pipe_numbers(matches) {
         Ok(numbers) => numbers,
         Err(fault) => return Err(fault),
     };
-    let (journal, journal_in) = (matches.get_str("journal"), matches.get_str("journal-in"));
-    if journal.is_some() && journal_in.is_some() {
-        return Err(UsageFault::TwoJournals);
-    }
+    let run = match run_request(matches, numbers.wait, numbers.device) {
+        Ok(run) => run,
+        Err(fault) => return Err(fault),
+    };
     let shape = match shape_of(numbers.exponent, matches.get_str("label")) {
         Ok(shape) => shape,
         Err(fault) => return Err(fault),
     };
     Ok(PipeRequest {
-        key,
-        ledger,
-        may_make: !matches.get_flag("no-new-ledger"),
-        wait: numbers.wait,
-        device: numbers.device,
-        witness: matches.get_str("witness"),
-        new_witness: matches.get_flag("new-witness"),
+        run,
         workers: numbers.workers,
         depth: numbers.depth,
         max_chunks: numbers.max_chunks,
-        journal,
-        journal_in,
         shape,
         to_terminal: matches.get_flag("force-terminal"),
     })

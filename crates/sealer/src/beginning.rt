@@ -7,6 +7,7 @@ ghost use Rattle.reserve_core.specs.NextRun.{IsFound};
 
 use crate::files::key_at;
 use crate::{FAULT, explain, tell_cause};
+use command_line::RunRequest;
 use container_core::Key;
 use ledger_core::{Device, ToWrite};
 use sealer_core::LedgerFile;
@@ -28,30 +29,11 @@ pub(crate) struct Begun<J: Drop> {
     pub(crate) path: Option<String>,
 }
 
-/// What a run that seals begins with, as it is asked for.
-#[derive(Clone, Copy)]
-pub(crate) struct Beginning<'a> {
-    /// The path of its key file.
-    pub(crate) key: &'a str,
-    /// Its ledger file, which no journal may be.
-    pub(crate) ledger: LedgerPath<'a>,
-    /// For how many seconds it waits if another run holds the ledger file.
-    pub(crate) wait: u32,
-    /// The ledger's witness.
-    pub(crate) witness: WitnessPath<'a>,
-    /// The device under whose numbers it seals. The name of a journal in a folder has it.
-    pub(crate) device: Device,
-    /// The path of its journal, if one is given.
-    pub(crate) journal: Option<&'a str>,
-    /// The folder in which its journal is made, if there is no such path.
-    pub(crate) folder: Option<&'a str>,
-}
-
 /// Begins a run that seals: reads the key file, and creates the journal. A fault is printed, with `causes` its cause too,
 /// and the error is its status.
 pub(crate) fn begin_run<R: Files + AllocGlobal + Clock + Eprint>(
     rt: &R,
-    asked: Beginning<'_>,
+    asked: &RunRequest<'_>,
     causes: bool,
 ) -> Result<Begun<ToWrite<R::File>>, u8>
     ensures status { IfErr result (λ status. status ≡ FAULT) }
@@ -60,8 +42,8 @@ pub(crate) fn begin_run<R: Files + AllocGlobal + Clock + Eprint>(
         Ok(key) => key,
         Err(status) => return Err(status),
     };
-    let place = journal_place(asked.journal, asked.folder, asked.device);
-    match new_journal(rt, place, asked.ledger.path) {
+    let place = journal_place(asked.journal, asked.journal_in, asked.device);
+    match new_journal(rt, place, asked.ledger) {
         Ok((journal, path)) => Ok(Begun { key, journal, path }),
         Err(fault) => {
             let about = About::Known(fault.cause());
@@ -114,14 +96,14 @@ pub(crate) enum Refusal {
 /// asked to.
 pub(crate) fn open_in_turn<'r>(
     host: &'r HostRuntime,
-    asked: &Beginning<'r>,
+    asked: &RunRequest<'r>,
     key: &Key,
 ) -> Result<(LedgerFile<FileStore<FileFrom<Wary>>>, FileWitness<'r>), Refusal>
     ensures found { IfOk result (λ r. (keeper : _) × (r.0 ≡ LedgerFile.Kept keeper)
         × (HasCleanDisk (file_state keeper) → (it : IsFound over_files (image_at ⟦<Wary as Start>⟧) keeper)
-        × (asked.now.ledger.may_make ≡ false → (file_state it.connection).now.schema.tables ≢ []))) }
+        × (asked.now.may_make ≡ false → (file_state it.connection).now.schema.tables ≢ []))) }
 {
-    let mut turn = Turn::new(host, asked.ledger.path, asked.wait);
+    let mut turn = Turn::new(host, asked.ledger, asked.wait);
     for _ in 0..MAX_TRIES {
         match open_now(host, asked, key, Wary) {
             Ok(opened) => return Ok(opened),
@@ -139,41 +121,50 @@ pub(crate) fn open_in_turn<'r>(
 // denotes what the ledger file and its log hold.
 fn open_now<'r, S: Start>(
     host: &'r HostRuntime,
-    asked: &Beginning<'r>,
+    asked: &RunRequest<'r>,
     key: &Key,
     start: S,
 ) -> Result<(LedgerFile<FileStore<FileFrom<S>>>, FileWitness<'r>), Refusal>
     ensures found { IfOk result (λ r. (keeper : _) × (r.0 ≡ LedgerFile.Kept keeper)
         × (HasCleanDisk (file_state keeper) → (it : IsFound over_files (image_at S.Start) keeper)
-        × (asked.now.ledger.may_make ≡ false → (file_state it.connection).now.schema.tables ≢ []))) }
+        × (asked.now.may_make ≡ false → (file_state it.connection).now.schema.tables ≢ []))) }
 {
     let witness = match look(host, asked, key) {
         Ok(witness) => witness,
         Err(refusal) => return Err(refusal),
     };
-    match open_ledger(host, &asked.ledger, start) {
+    match open_ledger(host, &ledger_path(asked), start) {
         Ok(file) => Ok((file, witness)),
         Err(fault) => Err(Refusal::Ledger(fault, Step::Open)),
+    }
+}
+
+// The ledger file that is asked for.
+fn ledger_path<'a>(asked: &RunRequest<'a>) -> LedgerPath<'a>
+    ensures path { result.path.now ≡ asked.now.ledger.now }
+    ensures may_make { result.may_make ≡ asked.now.may_make }
+{
+    LedgerPath {
+        path: asked.ledger,
+        may_make: asked.may_make,
     }
 }
 
 // Checks whether the ledger file may be opened, then reads the witness that is asked for.
 fn look<'r>(
     host: &'r HostRuntime,
-    asked: &Beginning<'r>,
+    asked: &RunRequest<'r>,
     key: &Key,
 ) -> Result<FileWitness<'r>, Refusal> {
-    match may_open(host, &asked.ledger) {
+    match may_open(host, &ledger_path(asked)) {
         Ok(()) => {}
         Err(fault) => return Err(Refusal::Ledger(fault, Step::Check)),
     }
-    match FileWitness::open(
-        host,
-        asked.witness,
-        asked.ledger.path,
-        &key.id(),
-        asked.device,
-    ) {
+    let witness = WitnessPath {
+        path: asked.witness,
+        is_new: asked.new_witness,
+    };
+    match FileWitness::open(host, witness, asked.ledger, &key.id(), asked.device) {
         Ok(witness) => Ok(witness),
         Err(WitnessRefusal::Ledger(fault)) => Err(Refusal::Ledger(fault, Step::Check)),
         Err(WitnessRefusal::Witness(fault)) => Err(Refusal::Witness(fault)),
@@ -192,7 +183,7 @@ fn comes_again(turn: &mut Turn<'_>, refusal: Refusal) -> bool {
 pub(crate) fn refuse_run<R: Files + AllocGlobal + Eprint>(
     rt: &R,
     refusal: Refusal,
-    asked: Beginning<'_>,
+    asked: &RunRequest<'_>,
     causes: bool,
 ) -> u8
     ensures status { result ≡ FAULT }
@@ -200,14 +191,14 @@ pub(crate) fn refuse_run<R: Files + AllocGlobal + Eprint>(
     match refusal {
         Refusal::Ledger(fault, step) => {
             let about = About::Ledger {
-                path: asked.ledger.path,
+                path: asked.ledger,
                 fault,
                 step,
             };
             explain(rt, "ledger", fault, causes, about)
         }
         Refusal::Witness(fault) => {
-            let about = about_witness(fault, asked.witness.path.unwrap_or(""));
+            let about = about_witness(fault, asked.witness.unwrap_or(""));
             explain(rt, "witness", fault, causes, about)
         }
     }
@@ -236,16 +227,16 @@ fn about_witness(fault: WitnessFault, path: &str) -> About<'_>
 pub(crate) fn tell_unrecorded<R: Files + AllocGlobal + Eprint>(
     rt: &R,
     unrecorded: Option<WitnessRefusal>,
-    asked: Beginning<'_>,
+    asked: &RunRequest<'_>,
     causes: bool,
 ) {
     match unrecorded {
         Some(WitnessRefusal::Witness(fault)) if causes => {
-            tell_cause(rt, about_witness(fault, asked.witness.path.unwrap_or("")));
+            tell_cause(rt, about_witness(fault, asked.witness.unwrap_or("")));
         }
         Some(WitnessRefusal::Ledger(fault)) if causes => {
             let about = About::Ledger {
-                path: asked.ledger.path,
+                path: asked.ledger,
                 fault,
                 step: Step::Check,
             };

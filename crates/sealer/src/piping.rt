@@ -16,9 +16,7 @@ ghost use Rattle.sealer_core.specs.Piping.{FollowsLine, HasSealedStream, pipe_vi
 ghost use Rattle.sealer_core.specs.Sealing.{FoldsFiles, IsWritten, ReservesFilesOnce, range_asked, sealed_under};
 ghost use Rattle.sealer.specs.Pipes.{PipesAsAsked, PipesUnder};
 
-use crate::beginning::{
-    Beginning, Begun, begin_run, journal_path, open_in_turn, refuse_run, tell_unrecorded,
-};
+use crate::beginning::{Begun, begin_run, journal_path, open_in_turn, refuse_run, tell_unrecorded};
 use crate::{Streams, print_complaint};
 use clap::ArgMatches;
 use command_line::{PipeRequest, UsageFault, pipe_request};
@@ -34,7 +32,7 @@ use std::rt::{Clock, Files};
 use std::sync::Wait;
 use std::thread::Threads;
 use system_files::{OwnPaths, StandardInput};
-use system_ledger::{LedgerPath, WitnessPath, close_ledger};
+use system_ledger::close_ledger;
 
 /// Seals the input and writes the container to the output. A terminal is refused as output, unless it was asked for.
 /// Returns the status, with the streams.
@@ -63,16 +61,15 @@ pub(crate) fn pipe_as_asked<
         return (print_complaint(rt, "usage", UsageFault::Terminal), streams);
     }
     let causes = streams.terminals.causes;
-    let asked = pipe_beginning(&request);
-    let Begun { key, journal, path } = match begin_run(rt, asked, causes) {
+    let Begun { key, journal, path } = match begin_run(rt, &request.run, causes) {
         Ok(begun) => begun,
         Err(status) => return (status, streams),
     };
     let own = OwnPaths {
-        ledger: request.ledger,
-        key: request.key,
-        journal: journal_path(&path, request.journal),
-        witness: request.witness,
+        ledger: request.run.ledger,
+        key: request.run.key,
+        journal: journal_path(&path, request.run.journal),
+        witness: request.run.witness,
     };
     let mut input = FromRead(StandardInput::new(rt, input, own));
     let mut streams = streams;
@@ -100,35 +97,6 @@ pub(crate) fn pipe_as_asked<
     (status, streams)
 }
 
-// What a run of this request begins with.
-fn pipe_beginning<'a>(request: &PipeRequest<'a>) -> Beginning<'a>
-    ensures key { result.key.now ≡ request.now.key.now }
-    ensures ledger { result.ledger.path.now ≡ request.now.ledger.now }
-    ensures may_make { result.ledger.may_make ≡ request.now.may_make }
-    ensures wait { result.wait ≡ request.now.wait }
-    ensures witness { result.witness.path ≡ request.now.witness }
-    ensures is_new { result.witness.is_new ≡ request.now.new_witness }
-    ensures device { result.device ≡ request.now.device }
-    ensures journal { result.journal ≡ request.now.journal }
-    ensures folder { result.folder ≡ request.now.journal_in }
-{
-    Beginning {
-        key: request.key,
-        ledger: LedgerPath {
-            path: request.ledger,
-            may_make: request.may_make,
-        },
-        wait: request.wait,
-        witness: WitnessPath {
-            path: request.witness,
-            is_new: request.new_witness,
-        },
-        device: request.device,
-        journal: request.journal,
-        folder: request.journal_in,
-    }
-}
-
 // Seals the input once the ledger file is opened. Returns the status.
 fn pipe_in_turn<
     'r,
@@ -151,14 +119,13 @@ fn pipe_in_turn<
     requires workers { (0 < request.now.workers) × (request.now.workers ≤ MAX_WORKERS) }
     requires depth { (0 < request.now.depth) × (request.now.depth ≤ MAX_DEPTH) }
     requires most { 0 < request.now.max_chunks }
-    ensures pipes { PipesUnder key.now request.now.shape request.now.device (R.left reader.old)
+    ensures pipes { PipesUnder key.now request.now.shape request.now.run.device (R.left reader.old)
         (W.taken writer.old.writer) (W.taken writer.new.writer) result
         (E.taken out.old.faults) (E.taken out.new.faults) }
 {
-    let asked = pipe_beginning(request);
-    let (mut file, mut witness) = match open_in_turn(host, &asked, key) {
+    let (mut file, mut witness) = match open_in_turn(host, &request.run, key) {
         Ok(opened) => opened,
-        Err(refusal) => return refuse_run(rt, refusal, asked, causes),
+        Err(refusal) => return refuse_run(rt, refusal, &request.run, causes),
     };
     let status = pipe_from(
         rt,
@@ -171,20 +138,20 @@ fn pipe_in_turn<
         out,
     );
     close_ledger(file);
-    tell_unrecorded(rt, witness.refusal(), asked, causes);
+    tell_unrecorded(rt, witness.refusal(), &request.run, causes);
     status
 }
 
 // The options of this request.
 fn pipe_options<'q>(request: &'q PipeRequest<'_>) -> PipeOptions<'q>
-    ensures device { result.device ≡ request.now.device }
+    ensures device { result.device ≡ request.now.run.device }
     ensures workers { result.workers ≡ request.now.workers }
     ensures depth { result.depth ≡ request.now.depth }
     ensures max_chunks { result.max_chunks ≡ request.now.max_chunks }
     ensures shape { result.shape.now ≡ request.now.shape }
 {
     PipeOptions {
-        device: request.device,
+        device: request.run.device,
         workers: request.workers,
         depth: request.depth,
         max_chunks: request.max_chunks,
@@ -219,18 +186,18 @@ fn pipe_from<
     // The ledger file was opened as it was found.
     requires found { (keeper : _) × (file.old ≡ LedgerFile.Kept keeper)
         × (HasCleanDisk (file_state keeper) → (it : IsFound over_files (image_at S.Start) keeper)
-        × (request.now.may_make ≡ false → (file_state it.connection).now.schema.tables ≢ [])) }
+        × (request.now.run.may_make ≡ false → (file_state it.connection).now.schema.tables ≢ [])) }
     ensures status { result ≤ 2 }
     // At most one range was appended to it. Then nothing was read or written, or the stream was sealed over a range of
     // one number reserved there, with one legal history. The file has that range without its log, and the journal records
     // the history. Standard error takes a complaint, or the stream's line and then at most one complaint. Each may be cut
     // short. A writer has no record.
-    ensures run { ReservesFilesOnce LedgerFile.Kept LedgerFile.Folded (sha256 key.now) request.now.device 1
+    ensures run { ReservesFilesOnce LedgerFile.Kept LedgerFile.Folded (sha256 key.now) request.now.run.device 1
         file.old file.new
         × (((result ≡ 2) × (reader.new ≡ reader.old) × (writer.new ≡ writer.old) × (out.new.journal ≡ out.old.journal)
         × Complains (E.taken out.old.faults) (E.taken out.new.faults))
         ⊎ ((range : Numbers) × (history : List Entry) × (told : ℕ) × (written : Bool) × (line : Printed)
-        × FoldsFiles LedgerFile.Kept LedgerFile.Folded (range_asked (sha256 key.now) request.now.device 1)
+        × FoldsFiles LedgerFile.Kept LedgerFile.Folded (range_asked (sha256 key.now) request.now.run.device 1)
         file.old file.new range
         × IsLawfulRange range
         × IsWitnessed (N.floor witness.old) (N.recorded witness.old) (N.recorded witness.new) range

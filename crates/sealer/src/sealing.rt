@@ -18,7 +18,7 @@ ghost use Rattle.sealer_core.specs.Sealing.{FoldsFiles, HasSealed, IsOfSealing, 
 ghost use Rattle.sealer_core.specs.Sealing.{range_asked, sealed_under};
 ghost use Rattle.sealer.specs.Status.{IsOfCommand, IsStatusOf, IsStatusOver};
 
-use crate::beginning::{Beginning, Begun, begin_run, open_in_turn, refuse_run, tell_unrecorded};
+use crate::beginning::{Begun, begin_run, open_in_turn, refuse_run, tell_unrecorded};
 use crate::files::{clear, outs_of, progress_of, streams_of};
 use crate::kept::{destination_of, worked_of};
 use crate::{OverFiles, Streams, print_complaint};
@@ -37,7 +37,7 @@ use std::rt::{Clock, Files};
 use std::sync::Wait;
 use std::thread::Threads;
 use system_files::{FileOptions, Makes, OwnPaths, ProgressLine, SystemFiles};
-use system_ledger::{LedgerPath, WitnessPath, close_ledger};
+use system_ledger::close_ledger;
 
 /// Seals the files of these names. Returns the status, with the streams.
 pub(crate) fn seal_as_asked<
@@ -74,8 +74,7 @@ pub(crate) fn seal_as_asked<
         files: files.as_slice(),
         ..request
     };
-    let asked = seal_beginning(&request);
-    let Begun { key, journal, path } = match begin_run(rt, asked, causes) {
+    let Begun { key, journal, path } = match begin_run(rt, &request.run, causes) {
         Ok(begun) => begun,
         Err(status) => return (status, streams),
     };
@@ -90,10 +89,10 @@ pub(crate) fn seal_as_asked<
         private: request.private,
         // Sealing a ledger would make a copy of it.
         own: Some(OwnPaths {
-            ledger: request.ledger,
-            key: request.key,
-            journal: request.journal,
-            witness: request.witness,
+            ledger: request.run.ledger,
+            key: request.run.key,
+            journal: request.run.journal,
+            witness: request.run.witness,
         }),
         refuses_output: false,
         reads_again: false,
@@ -107,35 +106,6 @@ pub(crate) fn seal_as_asked<
         folder.keep_out(path.as_str());
     }
     seal_to(rt, host, &key, &request, folder, progress, journal, streams)
-}
-
-// What a run of this request begins with.
-fn seal_beginning<'a>(request: &SealRequest<'_, 'a>) -> Beginning<'a>
-    ensures key { result.key.now ≡ request.now.key.now }
-    ensures ledger { result.ledger.path.now ≡ request.now.ledger.now }
-    ensures may_make { result.ledger.may_make ≡ request.now.may_make }
-    ensures wait { result.wait ≡ request.now.wait }
-    ensures witness { result.witness.path ≡ request.now.witness }
-    ensures is_new { result.witness.is_new ≡ request.now.new_witness }
-    ensures device { result.device ≡ request.now.device }
-    ensures journal { result.journal ≡ request.now.journal }
-    ensures folder { result.folder ≡ request.now.journal_in }
-{
-    Beginning {
-        key: request.key,
-        ledger: LedgerPath {
-            path: request.ledger,
-            may_make: request.may_make,
-        },
-        wait: request.wait,
-        witness: WitnessPath {
-            path: request.witness,
-            is_new: request.new_witness,
-        },
-        device: request.device,
-        journal: request.journal,
-        folder: request.journal_in,
-    }
 }
 
 // Seals what is asked for, with the outputs in this folder.
@@ -205,20 +175,19 @@ fn seal_in_turn<
     ensures status { IsStatusOf (λ name. IsOfSealing) result (map (λ name. name.now) request.now.files.now)
         (L.taken out.old.lines) (L.taken out.new.lines) }
 {
-    let asked = seal_beginning(request);
-    let (mut file, mut witness) = match open_in_turn(host, &asked, key) {
+    let (mut file, mut witness) = match open_in_turn(host, &request.run, key) {
         Ok(opened) => opened,
-        Err(refusal) => return refuse_run(rt, refusal, asked, causes),
+        Err(refusal) => return refuse_run(rt, refusal, &request.run, causes),
     };
     let status = seal_from(rt, key, request, &mut file, &mut witness, folder, out);
     close_ledger(file);
-    tell_unrecorded(rt, witness.refusal(), asked, causes);
+    tell_unrecorded(rt, witness.refusal(), &request.run, causes);
     status
 }
 
 // The options of this request.
 fn seal_options<'q>(request: &'q SealRequest<'q, '_>) -> SealOptions<'q>
-    ensures device { result.device ≡ request.now.device }
+    ensures device { result.device ≡ request.now.run.device }
     ensures files { result.files.now ≡ request.now.files.now }
     ensures workers { result.workers ≡ request.now.workers }
     ensures lanes { result.lanes ≡ request.now.lanes }
@@ -227,7 +196,7 @@ fn seal_options<'q>(request: &'q SealRequest<'q, '_>) -> SealOptions<'q>
     ensures shape { result.shape.now ≡ request.now.shape }
 {
     SealOptions {
-        device: request.device,
+        device: request.run.device,
         files: request.files,
         workers: request.workers,
         lanes: request.lanes,
@@ -265,17 +234,17 @@ fn seal_from<
     // The ledger file was opened as it was found.
     requires found { (keeper : _) × (file.old ≡ LedgerFile.Kept keeper)
         × (HasCleanDisk (file_state keeper) → (it : IsFound over_files (image_at S.Start) keeper)
-        × (request.now.may_make ≡ false → (file_state it.connection).now.schema.tables ≢ [])) }
+        × (request.now.run.may_make ≡ false → (file_state it.connection).now.schema.tables ≢ [])) }
     ensures status { result ≤ 2 }
     // At most one range was appended to it. Then no output was touched, or the files were sealed over a range reserved
     // there, with one legal history. The file has that range without its log, and the journal records the history.
-    ensures run { ReservesFilesOnce LedgerFile.Kept LedgerFile.Folded (sha256 key.now) request.now.device
+    ensures run { ReservesFilesOnce LedgerFile.Kept LedgerFile.Folded (sha256 key.now) request.now.run.device
         (length request.now.files.now) file.old file.new
         × (((result ≡ 2) × (folder.new ≡ folder.old) × (out.new.lines ≡ out.old.lines)
         × (out.new.journal ≡ out.old.journal))
         ⊎ ((range : Numbers) × (history : List Entry) × (told : ℕ) × (written : Bool)
         × FoldsFiles LedgerFile.Kept LedgerFile.Folded
-        (range_asked (sha256 key.now) request.now.device (length request.now.files.now)) file.old file.new range
+        (range_asked (sha256 key.now) request.now.run.device (length request.now.files.now)) file.old file.new range
         × IsLawfulRange range
         × IsWitnessed (N.floor witness.old) (N.recorded witness.old) (N.recorded witness.new) range
         × HasSealed (sealed_under key.now request.now.shape range.device request.now.max_bytes)

@@ -6,11 +6,6 @@ use Rattle.sealer.proofs.piping.pipe_in_turn.Goals as goal
 pub returns-in-Err : goal.returns-in-Err
 returns-in-Err g c = record { pipes = refused _ _ _ _ _ _ _ _ _ refl c.refuse_run.ensures.status }
 
-pub pipe_from-status-requires-clause-found : goal.pipe_from-status-requires-clause-found
-pipe_from-status-requires-clause-found g c κs within =
-    let found = c.in-Ok.ensures.found in
-    (found.0, found.1, λ clean. ((found.2 clean).0, λ no. (found.2 clean).1 (c.pipe_beginning-asked.ensures.may_make ∙ no)))
-
 pub returns : goal.returns
 returns g c =
     let (once, ended) = c.pipe_from-status.ensures.run in
