@@ -4,7 +4,7 @@ use Rattle.piece_core.specs.declared.fault.PutFault.{PutFault}
 use Rattle.piece_core.specs.declared.fault.PutFault.TheVariants.{Stranger, Double}
 use Rattle.piece_core.specs.declared.fault.ShelfFault.{ShelfFault}
 use Rattle.piece_core.specs.declared.fault.ShelfFault.TheVariants.{Missing, Forged, OutOfMemory}
-use Rattle.piece_core.specs.Pieces.{PieceView, ShelfView, Fits, place_of}
+use Rattle.piece_core.specs.Pieces.{PieceView, ShelfView, HasPlaceFor, place_of}
 use Rattle.piece_core.specs.Answer.{HasGap, IsFull, shelf_whole}
 
 abbrev pub put_number : PutFault → ℕ
@@ -18,8 +18,8 @@ shelf_number Missing = 42
 
 -- when a shelf refuses a piece with this fault
 abbrev pub Refuses : ShelfView → PieceView → PutFault → Type 0
-Refuses s p Stranger = Fits s p → ⊥
-Refuses s p Double = Fits s p × (place_of s p ≢ None)
+Refuses s p Stranger = HasPlaceFor s p → ⊥
+Refuses s p Double = HasPlaceFor s p × (place_of s p ≢ None)
 
 -- when a shelf gives no whole for this reason: OutOfMemory only where every piece is there and checks
 abbrev pub EndsBy : ShelfView → ShelfFault → Type 0

@@ -22,15 +22,15 @@ pub record ShelfView : Type 0 where
   pub places : List (Option PieceView)
 
 -- a work's piece of this number
-abbrev pub piece_of : WorkView → ℕ → PieceView
-piece_of w n = record { kind = w.kind; header = w.header; number = n; value = slice_index_or w.values n None }
+abbrev pub piece_of_work : WorkView → ℕ → PieceView
+piece_of_work w n = record { kind = w.kind; header = w.header; number = n; value = slice_index_or w.values n None }
 
 -- the shelf of a work with all places empty
 abbrev pub empty_shelf : WorkView → ShelfView
 empty_shelf w = record { kind = w.kind; header = w.header; places = replicate (length w.values) None }
 
 -- the piece has a place on the shelf: it is of the same kind and header, and its number is below the count
-pub record Fits (s : ShelfView) (p : PieceView) : Type 0 where
+pub record HasPlaceFor (s : ShelfView) (p : PieceView) : Type 0 where
   pub kind : p.kind ≡ s.kind
   pub header : p.header ≡ s.header
   pub number : p.number < length s.places

@@ -2,9 +2,10 @@
 ghost use Rattle.std.specs.Prelude.{◌≡◌, ℕ, ◌+◌, ◌*◌, ◌^◌, ◌<◌, ◌≤◌, ◌++◌, List, [], length, take, drop, replicate};
 ghost use Rattle.std.specs.Prelude.{slice_index_or, slice_set, None, Some, IfOk, OnOk};
 ghost use Rattle.container_core.specs.Container.{size_in};
-ghost use Rattle.piece_core.specs.Answer.{front_of};
-ghost use Rattle.piece_core.specs.Parts.{piece_size};
+ghost use Rattle.worker_core.specs.Parts.{room_of};
+ghost use Rattle.piece_core.specs.Answer.{bytes_before};
 ghost use Rattle.piece_core.specs.Rooms.{all_of};
+ghost use Rattle.piece_core.specs.Values.{task_of};
 
 use crate::work::{Kind, Work};
 use container_core::{Header, TAG};
@@ -47,7 +48,7 @@ fn append_zeros(bytes: &mut Vec<u8>, count: usize) -> Result<(), AllocError>
 
 // How many bytes every piece but the last has.
 fn size_of_piece(kind: Kind, header: &Header) -> usize
-    ensures { result ≡ piece_size kind (size_in header.now) }
+    ensures { result ≡ room_of (task_of kind) (size_in header.now) }
 {
     match kind {
         Kind::Sealing => header.chunk() + TAG,
@@ -58,7 +59,7 @@ fn size_of_piece(kind: Kind, header: &Header) -> usize
 // What comes before the pieces, with room for `bytes` bytes more.
 fn front_bytes(alloc: Global, work: &Work, bytes: usize) -> Result<Vec<u8>, AllocError>
     requires { bytes ≤ 2 ^ 53 }
-    ensures front { IfOk result (λ v. v.items ≡ front_of work.now.kind work.now.header) }
+    ensures front { IfOk result (λ v. v.items ≡ bytes_before work.now.kind work.now.header) }
     ensures short { IfOk result (λ v. length v.items ≤ 280) }
 {
     let header = work.header().bytes();
@@ -110,7 +111,7 @@ fn write_at(whole: &mut Vec<u8>, begin: usize, bytes: &[u8])
 impl Room {
     // Makes the front of a work's whole, and for each piece a part that is as long as the piece.
     pub(crate) fn new(alloc: Global, work: &Work) -> Result<Room, AllocError>
-        ensures front { IfOk result (λ room. room.front ≡ front_of work.now.kind work.now.header) }
+        ensures front { IfOk result (λ room. room.front ≡ bytes_before work.now.kind work.now.header) }
         ensures count { IfOk result (λ room. length room.parts ≡ length work.now.values) }
         ensures sizes { IfOk result (λ room. (n : ℕ) (bytes : List ℕ)
             → n < length work.now.values → slice_index_or work.now.values n None ≡ Some bytes

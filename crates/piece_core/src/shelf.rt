@@ -5,10 +5,11 @@
 ghost use Rattle.std.specs.Prelude.{◌≡◌, ◌≢◌, ℕ, ◌+◌, ◌<◌, ◌≤◌, ◌++◌, ◌↔◌, [], length, replicate, slice_index_or};
 ghost use Rattle.std.specs.Prelude.{option_map, None, Some, Ok, Err, IfOk, IfErr, OnOk, OnErr, IfSome, IfNone, IsTrue};
 ghost use Rattle.std.specs.Bool.{OnTrue, OnFalse};
-ghost use Rattle.piece_core.specs.Pieces.{WorkView, empty_shelf, Fits, place_of, with_piece};
-ghost use Rattle.piece_core.specs.Answer.{IsFull, IsOf, shelf_whole, whole_of};
+ghost use Rattle.piece_core.specs.Pieces.{WorkView, empty_shelf, HasPlaceFor, place_of, with_piece};
+ghost use Rattle.piece_core.specs.Answer.{IsFull, IsShelfOf, shelf_whole, whole_of};
 ghost use Rattle.piece_core.specs.Faults.{Refuses, EndsBy};
-ghost use Rattle.piece_core.specs.Rooms.{held, held_from, IsWithout, HasAll, IsFirstWithout, AllCheck, Keeps};
+ghost use Rattle.piece_core.specs.Rooms.{held, held_from, IsWithout, IsFirstWithout, AllHaveBytes, AllCheck};
+ghost use Rattle.piece_core.specs.Rooms.{KeepsPiece};
 
 use crate::fault::{PutFault, ShelfFault};
 use crate::piece::Piece;
@@ -20,7 +21,7 @@ use std::marker::Model;
 
 // What is known of a piece's place.
 #[derive(Drop)]
-pub(crate) enum Place {
+pub(crate) enum ShelfPlace {
     // No piece came yet.
     Empty,
     // The piece doesn't check.
@@ -37,64 +38,60 @@ pub struct Shelf {
     kind: Kind,
     header: Header,
     room: Room,
-    places: Vec<Place>,
+    places: Vec<ShelfPlace>,
 }
 
 impl Model for Shelf {
     ghost use Rattle.std.specs.Prelude.{◌≡◌, ◌≤◌, length, vec_len};
-    ghost use Rattle.piece_core.specs.Answer.{front_of};
+    ghost use Rattle.piece_core.specs.Answer.{bytes_before};
     ghost use Rattle.piece_core.specs.Pieces.{ShelfView};
-    ghost use Rattle.piece_core.specs.Rooms.{places_from};
+    ghost use Rattle.piece_core.specs.Rooms.{shelf_of};
     ghost use Rattle.piece_core.specs.declared.work.TheConstants.{MAX_PIECES};
 
     ghost Value = { ShelfView };
 
-    ghost view = { λ s. record {
-      kind = s.kind;
-      header = s.header;
-      places = places_from s.kind s.header 0 s.places.items s.room.parts;
-    } };
+    ghost view = { λ s. shelf_of s.kind s.header s.places.items s.room.parts };
 
-    ghost invariant = { λ s. (s.room.front ≡ front_of s.kind s.header)
+    ghost invariant = { λ s. (s.room.front ≡ bytes_before s.kind s.header)
         × (length s.places.items ≡ length s.room.parts) × (vec_len s.places ≤ MAX_PIECES) };
 }
 
 // Makes `count` empty places.
-fn empty_places(alloc: Global, count: u32) -> Result<Vec<Place>, AllocError>
-    ensures { IfOk result (λ v. v.items ≡ replicate count Place.Empty) }
+fn empty_shelf_places(alloc: Global, count: u32) -> Result<Vec<ShelfPlace>, AllocError>
+    ensures { IfOk result (λ v. v.items ≡ replicate count ShelfPlace.Empty) }
 {
     let mut places = Vec::with_capacity(alloc, count as usize)?;
     for _n in 0..count {
-        places.push(Place::Empty)?;
+        places.push(ShelfPlace::Empty)?;
     }
     Ok(places)
 }
 
 // Whether no piece came yet.
-fn is_empty(place: &Place) -> bool
-    ensures { IsTrue result ↔ (place.now ≡ Place.Empty) }
+fn is_empty(place: &ShelfPlace) -> bool
+    ensures { IsTrue result ↔ (place.now ≡ ShelfPlace.Empty) }
 {
     match place {
-        Place::Empty => true,
+        ShelfPlace::Empty => true,
         _ => false,
     }
 }
 
 // Whether no piece came yet for the place of this number.
-fn is_empty_at(places: &[Place], number: usize) -> bool
+fn is_empty_at(places: &[ShelfPlace], number: usize) -> bool
     requires { number < length places.now }
-    ensures yes { OnTrue result (slice_index_or places.now number Place.Empty ≡ Place.Empty) }
-    ensures no { OnFalse result (slice_index_or places.now number Place.Empty ≢ Place.Empty) }
+    ensures yes { OnTrue result (slice_index_or places.now number ShelfPlace.Empty ≡ ShelfPlace.Empty) }
+    ensures no { OnFalse result (slice_index_or places.now number ShelfPlace.Empty ≢ ShelfPlace.Empty) }
 {
     is_empty(&places[number])
 }
 
 // Whether a place is empty.
-fn has_gap(places: &[Place]) -> bool
+fn has_gap(places: &[ShelfPlace]) -> bool
     ensures gap { OnTrue result ((n : ℕ) × (n < length places.now)
-        × (slice_index_or places.now n Place.Empty ≡ Place.Empty)) }
+        × (slice_index_or places.now n ShelfPlace.Empty ≡ ShelfPlace.Empty)) }
     ensures full { OnFalse result ((n : ℕ) → n < length places.now
-        → slice_index_or places.now n Place.Empty ≢ Place.Empty) }
+        → slice_index_or places.now n ShelfPlace.Empty ≢ ShelfPlace.Empty) }
 {
     for n in 0..places.len() {
         if is_empty(&places[n]) {
@@ -105,21 +102,21 @@ fn has_gap(places: &[Place]) -> bool
 }
 
 // Whether no piece is there, or it doesn't check.
-fn is_without(place: &Place) -> bool
+fn is_without(place: &ShelfPlace) -> bool
     ensures yes { OnTrue result (IsWithout place.now) }
     ensures no { OnFalse result (IsWithout place.now → ⊥) }
 {
     match place {
-        Place::Empty | Place::Forged => true,
-        Place::Here | Place::Apart(_) => false,
+        ShelfPlace::Empty | ShelfPlace::Forged => true,
+        ShelfPlace::Here | ShelfPlace::Apart(_) => false,
     }
 }
 
 // The first place without bytes.
-fn first_without(places: &[Place]) -> Option<u32>
+fn first_without(places: &[ShelfPlace]) -> Option<u32>
     requires { length places.now ≤ MAX_PIECES }
     ensures found { IfSome result (IsFirstWithout places.now) }
-    ensures none { IfNone result (HasAll places.now) }
+    ensures none { IfNone result (AllHaveBytes places.now) }
 {
     for n in 0..places.len() {
         if is_without(&places[n]) {
@@ -130,15 +127,15 @@ fn first_without(places: &[Place]) -> Option<u32>
 }
 
 // Whether the bytes of all pieces are in the whole.
-fn are_here(places: &[Place]) -> bool
+fn are_here(places: &[ShelfPlace]) -> bool
     ensures yes { OnTrue result ((n : ℕ) → n < length places.now
-        → slice_index_or places.now n Place.Empty ≡ Place.Here) }
+        → slice_index_or places.now n ShelfPlace.Empty ≡ ShelfPlace.Here) }
     ensures no { OnFalse result ((n : ℕ) × (n < length places.now)
-        × (slice_index_or places.now n Place.Empty ≢ Place.Here)) }
+        × (slice_index_or places.now n ShelfPlace.Empty ≢ ShelfPlace.Here)) }
 {
     for n in 0..places.len() {
         match &places[n] {
-            Place::Here => {}
+            ShelfPlace::Here => {}
             _ => return false,
         }
     }
@@ -146,18 +143,18 @@ fn are_here(places: &[Place]) -> bool
 }
 
 // Appends the bytes that a place holds.
-fn append_held(bytes: &mut Vec<u8>, place: &Place, part: &[u8]) -> Result<(), AllocError>
+fn append_held(bytes: &mut Vec<u8>, place: &ShelfPlace, part: &[u8]) -> Result<(), AllocError>
     ensures { OnOk result (bytes.new.items ≡ bytes.old.items ++ held place.now part.now) }
 {
     match place {
-        Place::Empty | Place::Forged => Ok(()),
-        Place::Here => bytes.extend_from_slice(part),
-        Place::Apart(other) => bytes.extend_from_slice(other.as_slice()),
+        ShelfPlace::Empty | ShelfPlace::Forged => Ok(()),
+        ShelfPlace::Here => bytes.extend_from_slice(part),
+        ShelfPlace::Apart(other) => bytes.extend_from_slice(other.as_slice()),
     }
 }
 
 // The bytes of all places, after what comes before the pieces.
-fn joined(alloc: Global, room: &Room, places: &[Place]) -> Result<Vec<u8>, AllocError>
+fn joined(alloc: Global, room: &Room, places: &[ShelfPlace]) -> Result<Vec<u8>, AllocError>
     requires { length places.now ≡ length room.now.parts }
     ensures { IfOk result (λ v. v.items ≡ room.now.front ++ held_from 0 places.now room.now.parts) }
 {
@@ -169,21 +166,21 @@ fn joined(alloc: Global, room: &Room, places: &[Place]) -> Result<Vec<u8>, Alloc
 }
 
 // Copies the bytes of a piece to their position, or keeps them apart where they don't have the length of their place.
-fn keep(room: &mut Room, number: usize, value: Option<Vec<u8>>) -> Place
+fn keep_piece(room: &mut Room, number: usize, value: Option<Vec<u8>>) -> ShelfPlace
     requires { number < length room.old.parts }
     ensures front { room.new.front ≡ room.old.front }
-    ensures kept { Keeps room.old.parts room.new.parts number (option_map (λ v. v.items) value) result }
+    ensures kept { KeepsPiece room.old.parts room.new.parts number (option_map (λ v. v.items) value) result }
     ensures here { IfSome value (λ v. length v.items ≡ length (slice_index_or room.old.parts number [])
-        → result ≡ Place.Here) }
+        → result ≡ ShelfPlace.Here) }
 {
     let Some(bytes) = value else {
-        return Place::Forged;
+        return ShelfPlace::Forged;
     };
     if bytes.as_slice().len() == room.bytes_at(number) {
         room.write(number, bytes.as_slice());
-        Place::Here
+        ShelfPlace::Here
     } else {
-        Place::Apart(bytes)
+        ShelfPlace::Apart(bytes)
     }
 }
 
@@ -194,7 +191,7 @@ impl Shelf {
         ensures { IfOk result (λ s. s ≡ empty_shelf work.now) }
     {
         let room = Room::new(alloc, work)?;
-        let places = empty_places(alloc, work.count())?;
+        let places = empty_shelf_places(alloc, work.count())?;
         Ok(Shelf {
             kind: work.kind(),
             header: work.header().copy(),
@@ -212,8 +209,8 @@ impl Shelf {
 
     // Whether the piece has a place here.
     fn fits(&self, piece: &Piece) -> bool
-        ensures yes { OnTrue result (Fits self.now piece.now) }
-        ensures no { OnFalse result (Fits self.now piece.now → ⊥) }
+        ensures yes { OnTrue result (HasPlaceFor self.now piece.now) }
+        ensures no { OnFalse result (HasPlaceFor self.now piece.now → ⊥) }
     {
         piece.kind == self.kind
             && piece.header.bytes() == self.header.bytes()
@@ -251,7 +248,7 @@ impl Shelf {
     /// back. Allocates nothing.
     pub fn put(&mut self, piece: Piece) -> Result<(), (PutFault, Piece)>
         // The place was empty and is filled, and no other changed.
-        ensures filled { OnOk result (Fits self.old piece × (place_of self.old piece ≡ None)
+        ensures filled { OnOk result (HasPlaceFor self.old piece × (place_of self.old piece ≡ None)
             × (self.new ≡ with_piece self.old piece)) }
         ensures back { IfErr result (λ e. e.1 ≡ piece) }
         ensures same { OnErr result (self.new ≡ self.old) }
@@ -265,7 +262,7 @@ impl Shelf {
             return Err((PutFault::Double, piece));
         }
         let Piece { value, .. } = piece;
-        let place = keep(&mut self.room, number, value);
+        let place = keep_piece(&mut self.room, number, value);
         self.places[number] = place;
         Ok(())
     }
@@ -279,8 +276,8 @@ impl Shelf {
         ensures fault { IfErr result (λ e. EndsBy self e.0) }
 
         // For pieces that a work of this shelf made, the whole is that work's, and so is the chunk that doesn't check.
-        ensures made { IfOk result (λ v. (work : WorkView) → IsOf work self → whole_of work ≡ Ok v.items) }
-        ensures unmade { IfErr result (λ e. (work : WorkView) (chunk : ℕ) → IsOf work self
+        ensures made { IfOk result (λ v. (work : WorkView) → IsShelfOf work self → whole_of work ≡ Ok v.items) }
+        ensures unmade { IfErr result (λ e. (work : WorkView) (chunk : ℕ) → IsShelfOf work self
             → e.0 ≡ ShelfFault.Forged chunk → whole_of work ≡ Err chunk) }
     {
         if let Some(fault) = self.fault() {

@@ -4,9 +4,11 @@ ghost use Rattle.std.specs.Prelude.{None, Some, IfOk, IfErr, OnOk, option_map};
 ghost use Rattle.container_core.specs.Chunks.{chunk_count};
 ghost use Rattle.container_core.specs.Container.{size_in};
 ghost use Rattle.container_core.specs.Opening.{early_fault};
-ghost use Rattle.piece_core.specs.Pieces.{piece_of};
-ghost use Rattle.piece_core.specs.Values.{parts_of, value_at, sealing_of, opening_of};
-ghost use Rattle.piece_core.specs.Parts.{body_bytes, part_size, least_part, piece_size, pieces_sum};
+ghost use Rattle.worker_core.specs.Parts.{body_bytes, part_size, least_part, room_of};
+ghost use Rattle.worker_core.specs.Values.{parts_of, value_at};
+ghost use Rattle.piece_core.specs.Pieces.{piece_of_work};
+ghost use Rattle.piece_core.specs.Values.{task_of, sealing_of, opening_of};
+ghost use Rattle.piece_core.specs.Parts.{pieces_sum};
 
 use crate::piece::Piece;
 use container_core::{
@@ -41,27 +43,23 @@ pub struct Work<'a> {
 
 impl<'a> Model for Work<'a> {
     ghost use Rattle.piece_core.specs.Pieces.{WorkView};
-    ghost use Rattle.piece_core.specs.Values.{values_of};
+    ghost use Rattle.piece_core.specs.Values.{work_of};
     ghost use Rattle.piece_core.specs.Parts.{IsCut};
 
     ghost Value = { WorkView };
 
-    ghost view = { λ w. record {
-      kind = w.kind;
-      header = w.header;
-      values = values_of w.kind w.key.now w.header w.body.now;
-    } };
+    ghost view = { λ w. work_of w.kind w.key.now w.header w.body.now };
 
     ghost invariant = { λ w. IsCut w.kind w.header w.cut w.body.now };
 }
 
 // The part of a body that the piece of this number is made from.
-fn part_at(kind: Kind, cut: Cut, body: &[u8], number: u32) -> &[u8]
+fn part_of_work(kind: Kind, cut: Cut, body: &[u8], number: u32) -> &[u8]
     requires number { number < chunk_count cut.size cut.plain }
-    requires cut { length body.now ≡ body_bytes kind cut.size cut.plain }
-    ensures part { result.now ≡ slice_index_or (parts_of kind cut.size body.now) number [] }
-    ensures enough { least_part kind ≤ length result.now }
-    ensures small { length result.now ≤ part_size kind cut.size }
+    requires cut { length body.now ≡ body_bytes (task_of kind) cut.size cut.plain }
+    ensures part { result.now ≡ slice_index_or (parts_of (task_of kind) cut.size body.now) number [] }
+    ensures enough { least_part (task_of kind) ≤ length result.now }
+    ensures small { length result.now ≤ part_size (task_of kind) cut.size }
 {
     match kind {
         Kind::Sealing => cut.chunk_of(body, number),
@@ -70,7 +68,7 @@ fn part_at(kind: Kind, cut: Cut, body: &[u8], number: u32) -> &[u8]
 }
 
 // What comes of one part.
-fn value_of(
+fn made_of(
     alloc: Global,
     kind: Kind,
     key: &Key,
@@ -79,9 +77,10 @@ fn value_of(
     last: bool,
     part: &[u8],
 ) -> Result<Option<Vec<u8>>, AllocError>
-    requires enough { least_part kind ≤ length part.now }
-    requires small { length part.now ≤ part_size kind (size_in header.now) }
-    ensures { IfOk result (λ o. option_map (λ v. v.items) o ≡ value_at kind key.now header.now number last part.now) }
+    requires enough { least_part (task_of kind) ≤ length part.now }
+    requires small { length part.now ≤ part_size (task_of kind) (size_in header.now) }
+    ensures { IfOk result (λ o. option_map (λ v. v.items) o
+        ≡ value_at (task_of kind) key.now header.now number last part.now) }
 {
     match kind {
         Kind::Sealing => {
@@ -166,12 +165,12 @@ impl<'a> Work<'a> {
     /// number gives the same piece. Fails with `AllocError` where memory was refused.
     pub fn piece(&self, alloc: Global, number: u32) -> Result<Piece, AllocError>
         requires { number < length self.now.values }
-        ensures { IfOk result (λ p. p ≡ piece_of self.now number) }
+        ensures { IfOk result (λ p. p ≡ piece_of_work self.now number) }
     {
-        let part = part_at(self.kind, self.cut, self.body, number);
+        let part = part_of_work(self.kind, self.cut, self.body, number);
         let count = self.count();
         let last = number + 1 == count;
-        let value = value_of(alloc, self.kind, self.key, &self.header, number, last, part)?;
+        let value = made_of(alloc, self.kind, self.key, &self.header, number, last, part)?;
         Ok(Piece {
             kind: self.kind,
             header: self.header.copy(),
@@ -182,15 +181,16 @@ impl<'a> Work<'a> {
 
     // How many bytes all pieces have together.
     pub(crate) fn bytes_of_pieces(&self) -> usize
-        ensures least { (length self.now.values - 1) * piece_size self.now.kind (size_in self.now.header) ≤ result }
-        ensures most { result ≤ length self.now.values * piece_size self.now.kind (size_in self.now.header) }
+        ensures least { (length self.now.values - 1) * room_of (task_of self.now.kind) (size_in self.now.header)
+            ≤ result }
+        ensures most { result ≤ length self.now.values * room_of (task_of self.now.kind) (size_in self.now.header) }
         ensures few { result ≤ 2 ^ 53 }
 
-        // Every piece that checks has the length of a part, if as many bytes are cut after every `piece_size` of them.
+        // Every piece that checks has the length of its part, if `result` bytes are cut after every `room_of` bytes.
         ensures each { (n : ℕ) (bytes : List ℕ)
             → n < length self.now.values → slice_index_or self.now.values n None ≡ Some bytes
-            → length bytes ≡ min (piece_size self.now.kind (size_in self.now.header))
-            (result - n * piece_size self.now.kind (size_in self.now.header)) }
+            → length bytes ≡ min (room_of (task_of self.now.kind) (size_in self.now.header))
+            (result - n * room_of (task_of self.now.kind) (size_in self.now.header)) }
     {
         sum_of_pieces(self.kind, self.cut)
     }

@@ -1,5 +1,5 @@
 use Rattle.std.proofs.Common.{◌≡◌, ℕ, ◌<◌, get_or}
-use Rattle.piece_core.specs.declared.shelf.Place.TheVariants.{Empty, Here}
+use Rattle.piece_core.specs.declared.shelf.ShelfPlace.TheVariants.{Empty, Here}
 use Rattle.piece_core.proofs.shelf.are_here.Given as goal
 
 abbrev pub invariant-loop-n : goal.invariant-loop-n

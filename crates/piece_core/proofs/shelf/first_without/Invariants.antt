@@ -1,5 +1,5 @@
 use Rattle.std.proofs.Common.{ℕ, ◌<◌, get_or}
-use Rattle.piece_core.specs.declared.shelf.Place.TheVariants.{Empty}
+use Rattle.piece_core.specs.declared.shelf.ShelfPlace.TheVariants.{Empty}
 use Rattle.piece_core.specs.Rooms.{IsWithout}
 use Rattle.piece_core.proofs.shelf.first_without.Given as goal
 

@@ -1,6 +1,6 @@
 use Rattle.std.proofs.Common.{◌++◌, ◌∙◌, ap, get_or}
 use Rattle.std.proofs.lemmas.List.{get_or_read}
-use Rattle.piece_core.specs.declared.shelf.Place.TheVariants.{Empty}
+use Rattle.piece_core.specs.declared.shelf.ShelfPlace.TheVariants.{Empty}
 use Rattle.piece_core.specs.Rooms.{held}
 use Rattle.piece_core.proofs.ShelfLemmas.{held_more}
 use Rattle.piece_core.proofs.shelf.joined.Goals as goal

@@ -1,4 +1,4 @@
-use Rattle.piece_core.proofs.ShelfLemmas.{gap_of, full_of, forged_of, all_check}
+use Rattle.piece_core.proofs.ShelfLemmas.{gap_of, full_of, forged_of, none_refused}
 use Rattle.piece_core.proofs.shelf.Shelf.fault.Goals as goal
 
 pub returns-then-has_gap-clause-fault : goal.returns-then-has_gap-clause-fault
@@ -24,4 +24,8 @@ pub returns-in-None-clause-none : goal.returns-in-None-clause-none
 returns-in-None-clause-none c =
     let s = c.self.inside in
     let all = rw c.as_slice-2.ensures.value at c.in-None.ensures.none in
-    rw (← c.self.view_is) (all_check s.kind s.header s.places.items s.room.parts all)
+    let full = rw c.as_slice.ensures.value at c.if-has_gap.ensures.full in
+    rw (← c.self.view_is) (
+      full_of s.kind s.header s.places.items s.room.parts full,
+      none_refused s.kind s.header 0 s.places.items s.room.parts all,
+    )

@@ -1,8 +1,7 @@
 use Rattle.std.proofs.Common.{◌≡◌, Err, ◌∙◌, sym}
 use Rattle.piece_core.specs.Answer.{IsFull, shelf_whole}
-use Rattle.piece_core.specs.Rooms.{places_from, shelf_of}
 use Rattle.piece_core.proofs.AnswerLemmas.{whole_of_full}
-use Rattle.piece_core.proofs.ShelfLemmas.{full_checked, whole_held, joined_whole, here_whole}
+use Rattle.piece_core.proofs.ShelfLemmas.{whole_held, joined_whole, here_whole}
 use Rattle.piece_core.proofs.shelf.Shelf.finish.Goals as goal
 
 pub returns-then-are_here-clause-whole : goal.returns-then-are_here-clause-whole
@@ -33,8 +32,7 @@ pub returns-in-Err-clause-fault : goal.returns-in-Err-clause-fault
 returns-in-Err-clause-fault c =
     let s = c.self.inside in
     let all = rw (← c.self.view_is) at c.in_default.ensures.none in
-    let view = shelf_of s.kind s.header (places_from s.kind s.header 0 s.places.items s.room.parts) in
-    rw (← c.self.view_is) (full_checked view all, (_, whole_held s.kind s.header s.places.items s.room.parts all))
+    rw (← c.self.view_is) (all.0, (_, whole_held s.kind s.header s.places.items s.room.parts all))
 
 pub returns-in-Some-clause-unmade : goal.returns-in-Some-clause-unmade
 returns-in-Some-clause-unmade c = λ work chunk of e.

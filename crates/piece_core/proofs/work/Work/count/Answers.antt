@@ -1,12 +1,11 @@
-use Rattle.std.proofs.Common.{◌≡◌, length, ap, arith, ◌∙◌, sym}
-use Rattle.piece_core.proofs.ValueLemmas.{length-values_of, most_plain-sealing}
-use Rattle.piece_core.specs.Pieces.{WorkView}
+use Rattle.std.proofs.Common.{length, ap, arith, ◌∙◌, sym}
+use Rattle.piece_core.proofs.ValueLemmas.{length-work_values, most_plain-sealing}
 use Rattle.piece_core.proofs.work.Work.count.Goals as goal
 
 pub returns-clause-count : goal.returns-clause-count
 returns-clause-count c =
     let w = c.self.inside in
-    c.count.ensures.count ∙ sym (length-values_of w.kind w.key.now w.header w.cut w.body.now c.self.invariant)
+    c.count.ensures.count ∙ sym (length-work_values w.kind w.key.now w.header w.cut w.body.now c.self.invariant)
     ∙ ap (λ v. length v.values) c.self.view_is
 
 pub returns-clause-sealing : goal.returns-clause-sealing
