@@ -145,9 +145,9 @@ def commands_of(text, lists):
 
 def words_of(text):
     """The options with a word that denotes a number, as `auto`, each with its word."""
-    words = dict(re.findall(r'Takes::(\w+)(?:\(\w+\))? if value == "(\w+)"', function(text, "stands_for")))
+    words = dict(re.findall(r'Shorthand::(\w+)(?:\(\w+\))? if value == "(\w+)"', function(text, "stands_for")))
     taken = {}
-    for options, kind in re.findall(r'^ *("--[^=]*) => Takes::(\w+)', function(text, "takes_of"), re.M):
+    for options, kind in re.findall(r'^ *("--[^=]*) => Shorthand::(\w+)', function(text, "shorthand_of"), re.M):
         taken.update({it: words.get(kind) for it in re.findall(r'"--([\w-]+)"', options)})
     if set(taken.values()) != set(words.values()) or not words:
         die(f"words.rt has the words {words}, of the options {taken}")

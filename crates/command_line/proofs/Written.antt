@@ -13,7 +13,7 @@ use Rattle.std.specs.Str.Parse.{AllDigits, ParsesUnsigned, digits_value, without
 use Rattle.command_line.specs.Given.{numeral_value}
 use Rattle.command_line.specs.Words.{is_numeral, unit_of, scaled, stands_for, shorthand_of, inline_number, word_read, words_read, most_bytes, written_out}
 use Rattle.command_line.specs.declared.words.Shorthand.{Shorthand}
-use Rattle.command_line.specs.declared.words.Shorthand.TheVariants.{Limit, Processors, Numbers}
+use Rattle.command_line.specs.declared.words.Shorthand.TheVariants.{Limit, Processors, Nothing}
 
 own : IsNumeralModel (λ ds. all_ascii_digits ds ≡ true) (digits_value 10)
 own = numerals_by_value _ (search rules)
@@ -61,7 +61,7 @@ pub nothing_empty : (processors : ℕ) (takes : Shorthand) → stands_for proces
 unfolding stands_for
 nothing_empty processors (Limit most) = scaled_empty [] refl
 nothing_empty processors Processors = refl
-nothing_empty processors Numbers = refl
+nothing_empty processors Nothing = refl
 
 -- what `split_once` finds in a word is its option and its value
 pub value_within : (processors most : ℕ) (word : List ℕ) (r : Option (Bor (List ℕ) × Bor (List ℕ))) → IsSplitOnceResult 61 word r
@@ -105,12 +105,12 @@ short_words processors (program ∷ []) le = refl
 short_words processors (program ∷ command ∷ words) le = absurd (omega (arith, le))
 
 pub begun : (processors most : ℕ) (words : List (List ℕ)) (command : List ℕ) → 1 < length words → command ≡ get_or words 1 []
-    → most ≡ most_bytes command → IsReadUpTo processors most Numbers 2 words (written_out processors words)
+    → most ≡ most_bytes command → IsReadUpTo processors most Nothing 2 words (written_out processors words)
 unfolding written_out
 begun processors most [] command less e m = absurd (omega (arith, less))
 begun processors most (program ∷ []) command less e m = absurd (omega (arith, less))
 begun processors most (program ∷ first ∷ words) command less e m =
-    ap (λ n. program ∷ first ∷ words_read processors n Numbers words) (m ∙ ap most_bytes e)
+    ap (λ n. program ∷ first ∷ words_read processors n Nothing words) (m ∙ ap most_bytes e)
 
 read_step : (processors most : ℕ) (before : Shorthand) (word : List ℕ) (rest : List (List ℕ)) → bytes_eq word (codes "--") ≡ false
     → words_read processors most before (word ∷ rest)
@@ -200,4 +200,4 @@ pub plain_stays : (processors : ℕ) (takes : Shorthand) (text : List ℕ) → i
 unfolding stands_for
 plain_stays processors (Limit most) text is = rw (not_word text (codes "max") is refl) (no_unit text is)
 plain_stays processors Processors text is = rw (not_word text (codes "auto") is refl) refl
-plain_stays processors Numbers text is = refl
+plain_stays processors Nothing text is = refl

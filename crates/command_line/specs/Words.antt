@@ -6,7 +6,7 @@ use Rattle.std.specs.Str.{all_ascii_digits}
 use Rattle.std.specs.Str.Parse.{without_leading_plus}
 use Rattle.command_line.specs.Given.{numeral_value}
 use Rattle.command_line.specs.declared.words.Shorthand.{Shorthand}
-use Rattle.command_line.specs.declared.words.Shorthand.TheVariants.{Limit, Processors, Numbers}
+use Rattle.command_line.specs.declared.words.Shorthand.TheVariants.{Limit, Processors, Nothing}
 
 -- K, M, G and T denote powers of 1,024
 abbrev pub unit_of : ℕ → Option ℕ
@@ -28,21 +28,21 @@ scaled text = let digits = take (length text - 1) text in
 unfoldable pub stands_for : ℕ → Shorthand → List ℕ → Option ℕ
 stands_for processors (Limit most) value = if bytes_eq value (codes "max") then Some most else scaled value
 stands_for processors Processors value = if bytes_eq value (codes "auto") then Some (max 1 (min processors 16)) else None
-stands_for processors Numbers value = None
+stands_for processors Nothing value = None
 
--- what the option of this name takes, if `most` is the greatest of --max-bytes
+-- which shorthand the option of this name has, if `most` is the greatest of --max-bytes
 unfoldable pub shorthand_of : ℕ → List ℕ → Shorthand
 shorthand_of most name = if bytes_eq name (codes "--max-bytes") then Limit most
     else if bytes_eq name (codes "--max-chunks") then Limit (2 ^ 32 - 1)
     else if bytes_eq name (codes "--workers") then Processors
-    else if bytes_eq name (codes "--lanes") then Processors else Numbers
+    else if bytes_eq name (codes "--lanes") then Processors else Nothing
 
 -- the number that a word denotes if it is an option, an equals sign and its value
 unfoldable pub inline_number : ℕ → ℕ → List ℕ → Option ℕ
 inline_number processors most word =
     stands_for processors (shorthand_of most (before_first (λ b. b == 61) word)) (after_first (λ b. b == 61) word)
 
--- a word after an option that takes this: an option with its value, that option's value, or the word as it is
+-- a word after an option that has this shorthand: an option with its value, that option's value, or the word as it is
 unfoldable pub word_read : ℕ → ℕ → Shorthand → List ℕ → List ℕ
 word_read processors most before word =
     unwrap_or (option_map (λ n. before_first (λ b. b == 61) word ++ 61 ∷ decimal n) (inline_number processors most word))
@@ -60,7 +60,7 @@ most_bytes command = if bytes_eq command (codes "seal") then 2 ^ 40 else 2 ^ 52 
 
 -- the words of the command line, which begin with the program's name and the command
 unfoldable pub written_out : ℕ → List (List ℕ) → List (List ℕ)
-written_out processors (program ∷ command ∷ words) = program ∷ command ∷ words_read processors (most_bytes command) Numbers words
+written_out processors (program ∷ command ∷ words) = program ∷ command ∷ words_read processors (most_bytes command) Nothing words
 written_out processors (program ∷ []) = program ∷ []
 written_out processors [] = []
 

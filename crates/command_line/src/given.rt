@@ -78,9 +78,9 @@ pub(crate) fn seal_numbers(matches: &ArgMatches<'_>) -> Result<SealNumbers, Usag
         wait: number_or(matches, "wait", 0, MAX_WAIT, DEFAULT_WAIT)?,
         workers: number_or(matches, "workers", 1, MAX_WORKERS, DEFAULT_WORKERS)?,
         lanes: number_or(matches, "lanes", 1, MAX_LANES, DEFAULT_LANES)?,
-        window: given_number(matches, "window", 1, MAX_WINDOW)?,
+        window: number_within(matches, "window", 1, MAX_WINDOW)?,
         max_bytes: bytes_or(matches, "max-bytes", MAX_PLAIN, DEFAULT_MAX_BYTES)?,
-        exponent: given_number(matches, "exponent", MIN_EXPONENT, MAX_EXPONENT)?,
+        exponent: number_within(matches, "exponent", MIN_EXPONENT, MAX_EXPONENT)?,
     })
 }
 
@@ -107,7 +107,7 @@ pub(crate) fn pipe_numbers(matches: &ArgMatches<'_>) -> Result<PipeNumbers, Usag
         workers: number_or(matches, "workers", 1, MAX_WORKERS, DEFAULT_WORKERS)?,
         depth: number_or(matches, "depth", 1, MAX_DEPTH, DEFAULT_DEPTH)?,
         max_chunks: number_or(matches, "max-chunks", 1, u32::MAX, DEFAULT_MAX_CHUNKS)?,
-        exponent: given_number(matches, "exponent", MIN_EXPONENT, MAX_EXPONENT)?,
+        exponent: number_within(matches, "exponent", MIN_EXPONENT, MAX_EXPONENT)?,
     })
 }
 
@@ -133,7 +133,7 @@ pub(crate) fn open_numbers(matches: &ArgMatches<'_>, usual: u64) -> Result<OpenN
 pub fn device_asked(matches: &ArgMatches<'_>) -> Option<u32>
     ensures { IfSome result (λ device. number_given matches.now (codes "device") ≡ Some device) }
 {
-    match given_number(matches, "device", 0, Device::MAX) {
+    match number_within(matches, "device", 0, Device::MAX) {
         Ok(device) => device,
         Err(_) => None,
     }
@@ -145,14 +145,14 @@ fn device(matches: &ArgMatches<'_>) -> Result<Device, UsageFault>
     ensures fault { IfErr result (λ fault. fault ≢ UsageFault.LabelTooLong) }
     ensures no_journal { IfErr result (λ fault. fault ≢ UsageFault.TwoJournals) }
 {
-    let Some(number) = given_number(matches, "device", 0, Device::MAX)? else {
+    let Some(number) = number_within(matches, "device", 0, Device::MAX)? else {
         return Err(UsageFault::Missing);
     };
     Device::new(number).ok_or(UsageFault::OutOfRange)
 }
 
 // The number given for an option, if any. `OutOfRange` if it isn't in the range.
-fn given_number(
+fn number_within(
     matches: &ArgMatches<'_>,
     option: &str,
     least: u32,
@@ -184,7 +184,7 @@ fn number_or(
     ensures within { IsGivenWithin least most (one_text (found_of matches.now) option.now) → IsOk result }
     ensures fault { IfErr result (λ fault. fault ≡ UsageFault.OutOfRange) }
 {
-    match given_number(matches, option, least, most) {
+    match number_within(matches, option, least, most) {
         Ok(number) => Ok(number.unwrap_or(usual)),
         Err(fault) => Err(fault),
     }

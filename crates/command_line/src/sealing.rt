@@ -20,26 +20,31 @@ use ledger_core::Device;
 /// The exponent of the chunk size if only a label is given: chunks of 65,536 bytes.
 pub const DEFAULT_EXPONENT: u32 = 16;
 
-/// Under what a run of `seal` or `pipe` seals, and what it records of that.
+/// What `seal` and `pipe` are both asked for: the key, the ledger and its witness, the device, the journal.
 #[derive(Clone, Copy)]
 pub struct RunRequest<'a> {
+    /// The path of the key file.
     pub key: &'a str,
+    /// The path of the ledger file.
     pub ledger: &'a str,
     /// Whether a ledger file is made if there is none.
     pub may_make: bool,
     /// For how many seconds a run waits if another run holds the ledger file.
     pub wait: u32,
+    /// The device under whose numbers the run seals. The name of a journal in a folder has it.
     pub device: Device,
     /// The path of the ledger's witness, if there is to be one.
     pub witness: Option<&'a str>,
     /// Whether the witness is made, or takes another ledger file for its own.
     pub new_witness: bool,
+    /// The path of the journal, if one is given.
     pub journal: Option<&'a str>,
     /// The folder in which the journal gets a name of its own, if one is given.
     pub journal_in: Option<&'a str>,
 }
 
-// What a run of `seal` or `pipe` is asked for, under these numbers.
+// Returns what `seal` and `pipe` are both asked for, with these numbers. `TwoJournals` if a path and a folder are given
+// for the journal. The parser lets neither the key nor the ledger be `Missing`.
 fn run_request<'a>(
     matches: &ArgMatches<'a>,
     wait: u32,
@@ -78,7 +83,7 @@ fn run_request<'a>(
 /// A request of `seal`.
 #[derive(Drop)]
 pub struct SealRequest<'m, 'a> {
-    /// Under what it seals, and what it records of that.
+    /// What `pipe` is asked for alike.
     pub run: RunRequest<'a>,
     pub files: &'m [&'m str],
     pub workers: u32,
@@ -181,7 +186,7 @@ pub fn seal_request<'m, 'a>(
 /// A request of `pipe`.
 #[derive(Drop)]
 pub struct PipeRequest<'a> {
-    /// Under what it seals, and what it records of that.
+    /// What `seal` is asked for alike.
     pub run: RunRequest<'a>,
     pub workers: u32,
     /// The most chunks that are read and not yet written.

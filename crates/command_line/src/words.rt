@@ -2,8 +2,8 @@
 //! All other words stay, so that only the parser reports which are at fault, and how.
 ghost use Rattle.std.specs.Prelude.{◌≡◌, ◌<◌, ◌≤◌, ◌^◌, ◌==◌, OnOk, IfOk, IfSome, map, option_map, unwrap_or, string_bytes};
 ghost use Rattle.std.specs.List.{before_first, list_any};
-ghost use Rattle.command_line.specs.Words.{asks, inline_number, most_bytes, scaled, stands_for, shorthand_of, unit_of, word_read};
-ghost use Rattle.command_line.specs.Words.{written_out};
+ghost use Rattle.command_line.specs.Words.{asks, inline_number, most_bytes, scaled, shorthand_of, stands_for, unit_of};
+ghost use Rattle.command_line.specs.Words.{word_read, written_out};
 
 use claim_core::MAX_WORKERS;
 use container_core::{MAX_OPENED, MAX_PLAIN};
@@ -17,7 +17,7 @@ pub enum Shorthand {
     /// `auto`.
     Processors,
     /// Nothing.
-    Numbers,
+    Nothing,
 }
 
 /// Writes in digits the values that denote a number. For `--max-bytes` and `--max-chunks` these are `max` and a number
@@ -34,7 +34,7 @@ pub fn write_out(
         return Ok(());
     };
     let most = most_bytes(command.as_str());
-    let mut before = Shorthand::Numbers;
+    let mut before = Shorthand::Nothing;
     'words: for i in 2..words.len() {
         let word = words[i].as_str();
         if word == "--" {
@@ -76,7 +76,7 @@ fn most_bytes(command: &str) -> u64
     }
 }
 
-// What the option of this name takes.
+// Which shorthand the option of this name has.
 #[tactic(auto, unfolding(crate::specs::Words::shorthand_of))]
 fn shorthand_of(most: u64, name: &str) -> Shorthand
     ensures { result ≡ shorthand_of most name.now }
@@ -85,7 +85,7 @@ fn shorthand_of(most: u64, name: &str) -> Shorthand
         "--max-bytes" => Shorthand::Limit(most),
         "--max-chunks" => Shorthand::Limit(u32::MAX as u64),
         "--workers" | "--lanes" => Shorthand::Processors,
-        _ => Shorthand::Numbers,
+        _ => Shorthand::Nothing,
     }
 }
 

@@ -33,8 +33,9 @@ module _ (key : List ℕ) (shape : ShapeView) (device : ℕ) (input old new : Op
   abbrev pub PipesUnder : ℕ → Option (List ℕ) → Option (List ℕ) → Type 0
   PipesUnder status errors errors' = TakesFront × IsStatusOf (λ name. IsOfPiping) status (codes "-" ∷ []) errors errors'
 
--- The status is 2 and the output took nothing; or standard error has the stream's line, and the output took what that
--- says, under some key, in the shape and with the device that the options ask for.
+-- The status is 2 and the output took nothing; or, under some key, in the shape and with the device that the options ask
+-- for, it took a front of the input's container. Then the status is 2, or standard error has the stream's line and the
+-- output took what that says.
 abbrev pub PipesAsAsked : ArgMatches → Option (List ℕ) → ℕ → Option (List ℕ) → Option (List ℕ) → Option (List ℕ)
     → Option (List ℕ) → Type 0
 PipesAsAsked matches input status old new errors errors' = ((status ≡ 2) × Keeps old new)

@@ -150,6 +150,17 @@ fn ledger_path<'a>(asked: &RunRequest<'a>) -> LedgerPath<'a>
     }
 }
 
+// The witness that is asked for.
+fn witness_path<'a>(asked: &RunRequest<'a>) -> WitnessPath<'a>
+    ensures path { result.path ≡ asked.now.witness }
+    ensures is_new { result.is_new ≡ asked.now.new_witness }
+{
+    WitnessPath {
+        path: asked.witness,
+        is_new: asked.new_witness,
+    }
+}
+
 // Checks whether the ledger file may be opened, then reads the witness that is asked for.
 fn look<'r>(
     host: &'r HostRuntime,
@@ -160,11 +171,13 @@ fn look<'r>(
         Ok(()) => {}
         Err(fault) => return Err(Refusal::Ledger(fault, Step::Check)),
     }
-    let witness = WitnessPath {
-        path: asked.witness,
-        is_new: asked.new_witness,
-    };
-    match FileWitness::open(host, witness, asked.ledger, &key.id(), asked.device) {
+    match FileWitness::open(
+        host,
+        witness_path(asked),
+        asked.ledger,
+        &key.id(),
+        asked.device,
+    ) {
         Ok(witness) => Ok(witness),
         Err(WitnessRefusal::Ledger(fault)) => Err(Refusal::Ledger(fault, Step::Check)),
         Err(WitnessRefusal::Witness(fault)) => Err(Refusal::Witness(fault)),

@@ -119,16 +119,16 @@ fn owned(alloc: Global, names: &[&str]) -> Result<Vec<String>, UsageFault> {
 /// with one, else 0.
 pub(crate) fn look_over<R: Files + AllocGlobal + Eprint, W: Sink>(
     rt: &R,
-    look: Purpose<'_>,
+    purpose: Purpose<'_>,
     containers: &Containers,
     output: &mut W,
 ) -> Result<u8, TellFault> {
-    let mut look = look;
+    let mut purpose = purpose;
     let mut status = 0;
     for name in &containers.names {
         let name = name.as_str();
         let seen = look_at_name(rt, name, containers);
-        if !print_shown(rt.alloc(), &mut look, name, seen, output)? {
+        if !print_shown(rt.alloc(), &mut purpose, name, seen, output)? {
             status = 1;
         }
     }
@@ -187,7 +187,7 @@ fn explain_container<R: Files + AllocGlobal + Eprint>(
 // Prints what is to be said of a container. Returns whether all is well with it.
 fn print_shown<W: Sink>(
     alloc: Global,
-    look: &mut Purpose<'_>,
+    purpose: &mut Purpose<'_>,
     name: &str,
     seen: Result<(SeenHeader, Option<u64>), FileFault>,
     output: &mut W,
@@ -201,7 +201,7 @@ fn print_shown<W: Sink>(
             return Ok(false);
         }
     };
-    match look {
+    match purpose {
         Purpose::Show => {
             let line = Shown { name, seen, bytes };
             print(format!(in alloc; "{line}\n"), output)?;

@@ -16,8 +16,8 @@ ghost use Rattle.ledger_core.specs.declared.fault.IssueFault.{IssueFault};
 ghost use Rattle.command_core.specs.Lines.{FileLine};
 ghost use Rattle.folder_core.specs.Growth.{Grows};
 ghost use Rattle.folder_core.specs.Record.{bound_in};
-ghost use Rattle.sealer_core.specs.Group.{AreKeyed, AreOwing, ClosesBy, IsCounted, IsEnding, IsLonger, OutputEndsBy, OwesAt};
-ghost use Rattle.sealer_core.specs.Group.{IsKnownLeft, PutsLeft, SettledAt, uncreated_as, under_in};
+ghost use Rattle.sealer_core.specs.Group.{AreKeyed, AreOwing, ClosesBy, IsCounted, IsEnding, IsLonger, OutputEndsBy};
+ghost use Rattle.sealer_core.specs.Group.{IsKnownLeft, OwesAt, PutsLeft, SettledAt, uncreated_as, under_in};
 ghost use Rattle.sealer_core.specs.Sealing.{Accounts, AddsSealed, IsOfSealing, container_by, given_up_in, is_unread};
 ghost use Rattle.sealer_core.specs.Sealing.{line_of, operations_of, unissued_as};
 

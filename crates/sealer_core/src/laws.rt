@@ -12,7 +12,7 @@ ghost use Rattle.sealer_core.specs.Life.{IsGrantAt, IsLife, LedgerRun, Lives, re
 ghost use Rattle.sealer_core.specs.Theorem.{AreRunsOf, IsOutputAt, Position, Run};
 
 /// In the life of a key and device no number is in two of the ranges that its runs reserved.
-pub fn ranges_of_lives_are_apart()
+pub fn ranges_of_a_life_are_apart()
     ensures { (device : ℕ) (runs : List LedgerRun) (i j number : ℕ) (one other : TakenRange)
         → IsLife device runs → i ≢ j
         → slice_get (reserved runs) i ≡ Some one → slice_get (reserved runs) j ≡ Some other

@@ -1,7 +1,7 @@
 use Rattle.std.proofs.Common.{Some, None, ◌≢◌, ◌∷◌, length, rules, arith, ap, length-append}
 use Rattle.std.proofs.lemmas.List.Elements.{All-from_get_or}
 use Rattle.std.proofs.lemmas.Str.Pattern.{split_parts}
-use Rattle.command_line.proofs.names.cut.Goals as goal
+use Rattle.command_line.proofs.names.cut_name.Goals as goal
 
 pub returns-in-Some : goal.returns-in-Some
 returns-in-Some c =

@@ -2,7 +2,7 @@ use Rattle.std.proofs.Common.{◌≡◌, List, subst, rules}
 use Rattle.ledger_core.specs.Closing.{HaveMet}
 use Rattle.ledger_core.specs.Shared.{SeatView}
 use Rattle.ledger_core.proofs.Meetings.{whole_of_met}
-use Rattle.sealer_core.proofs.ending.meet.Goals as goal
+use Rattle.sealer_core.proofs.ending.meet_twice.Goals as goal
 
 pub returns : goal.returns
 returns c =

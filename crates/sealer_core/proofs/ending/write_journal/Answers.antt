@@ -9,8 +9,8 @@ pub returns-in-Err : goal.returns-in-Err
 returns-in-Err g c =
     let ledger : c.in-Err.ledger ≡ c.args.ledger = search rules in
     let seats : c.in-Err.seats.items ≡ c.args.seats.items = search rules in (
-      c.meet.ensures.0,
-      subst (λ (l : LedgerView). IsWhole l.terms c.args.seats.items c.meet.ensures.0) ledger
-          (subst (λ (s : List SeatView). IsWhole c.in-Err.ledger.terms s c.meet.ensures.0) seats c.meet.ensures.1),
+      c.meet_twice.ensures.0,
+      subst (λ (l : LedgerView). IsWhole l.terms c.args.seats.items c.meet_twice.ensures.0) ledger
+          (subst (λ (s : List SeatView). IsWhole c.in-Err.ledger.terms s c.meet_twice.ensures.0) seats c.meet_twice.ensures.1),
       (([], (_, refl), Appends-nil _), journal_lacks _ _ _),
     )

@@ -1,5 +1,5 @@
 use Rattle.sealer_core.proofs.Lives.{apart}
-use Rattle.sealer_core.proofs.laws.ranges_of_lives_are_apart.Goals as goal
+use Rattle.sealer_core.proofs.laws.ranges_of_a_life_are_apart.Goals as goal
 
 pub returns : goal.returns
 returns c = apart
