@@ -31,7 +31,7 @@ ONCE = 64
 # How many bytes are read and written at a time where only that is timed.
 PIECE = 1 << 16
 # In KiB: the bytes for which a lane is started, and those for which `verify` and `open` start a worker.
-LANE, SHARE = 128, 1024
+LANE, SHARE = 256, 1024
 STARTER = Path(__file__).resolve().with_name("thread_start.c")
 os.chdir(asked.folder)
 Path("key").write_text("5a" * 32 + "\n", encoding="ascii")
@@ -109,7 +109,7 @@ def thread_costs():
     """The seconds in which the first thread starts 0, 1, 2 and 3 threads."""
     subprocess.run(["cc", "-O2", "-pthread", "-o", "thread_start", STARTER], check=True)
     said = subprocess.run(["./thread_start"], capture_output=True, text=True, check=True).stdout
-    print("microseconds to start 1, 2, 3 threads, and to join them too: " + "; ".join(line.split(" ", 1)[1] for line in said.splitlines()))
+    print("microseconds to start 1, 2, 3 threads, to join them too, and to wake as many: " + "; ".join(line.split(" ", 1)[1] for line in said.splitlines()))
     return [0.0, *(float(line.split()[1]) / 1e6 for line in said.splitlines())]
 
 

@@ -720,7 +720,7 @@ sealed files/b file 1 bytes 1492' ''
         is "what-isn't-on-the-disk-is-void by $lanes" test "$(grep -c ' void 0$' files/journal$lanes) $(grep -c ' sealed 1$' files/journal$lanes)" = '1 1'
         is "no-container-is-left by $lanes" test "$(ls -A "files/synced$lanes")" = b.stm
     done
-    # How many threads are started: a group has a lane for each 128 KiB of its files, the caller's thread among them. A longer file counts as these.
+    # How many threads are started: a group has a lane for each 256 KiB of its files, the caller's thread among them. A longer file counts as these.
     fresh
     started() { strace -f -e trace=clone,clone3 -o calls "$sealer" seal --key "$key" --ledger files/l --device 1 "$@" > out 2> err; status=$?; }
     # lanes_of LANES THREADS A B C D: the bytes of four files
@@ -732,11 +732,11 @@ sealed files/b file 1 bytes 1492' ''
         started --lanes "$lanes" files/a files/b files/c files/d
         is "lanes-of-$bytes by $lanes" test "$status $(grep -c 'clone3\?(' calls)" = "0 $threads"
     }
-    lanes_of 4 3 131072 131072 131072 131072
-    lanes_of 2 2 131072 131072 131072 131072
-    lanes_of 4 2 131072 131072 131072 131071
-    lanes_of 4 1 65536 65536 65536 65536
-    lanes_of 4 0 32768 32768 32768 32767
+    lanes_of 4 3 262144 262144 262144 262144
+    lanes_of 2 2 262144 262144 262144 262144
+    lanes_of 4 2 262144 262144 262144 262143
+    lanes_of 4 1 131072 131072 131072 131072
+    lanes_of 4 0 65536 65536 65536 65536
     lanes_of 4 0 4194304 1 1 1
     head -c 262144 /dev/zero > files/e
     started --workers 4 files/e

@@ -128,8 +128,8 @@ fn end_group<F: Folder, L: Report>(
     status
 }
 
-// How many bytes are worth a lane. To seal them takes 60 to 125 microseconds, a thread's start and end 20 to 60.
-const LANE_BYTES: usize = 1 << 17;
+// How many bytes are worth a lane. To seal them takes 125 to 250 microseconds, a thread's start and end 30 to 80.
+const LANE_BYTES: usize = 1 << 18;
 
 // With how many lanes a group of jobs is sealed: one for each `LANE_BYTES` of them, but at least one if there is any job.
 // Of a longer job only as many count, as it is one lane's alone.

@@ -51,8 +51,8 @@ pub struct SealOptions<'a> {
     /// The number of workers that seal a file: 1 to 16. With more than one lane each file is sealed by its lane alone.
     pub workers: u32,
     /// The greatest number of files sealed at once: 1 to 16. With n > 1, n inputs and containers are in memory at a
-    /// time. A group is sealed with a lane for each 128 KiB of its files, and at least one; a longer file counts as
-    /// 128 KiB.
+    /// time. A group is sealed with a lane for each 256 KiB of its files, and at least one; a longer file counts as
+    /// 256 KiB.
     pub lanes: u32,
     /// How many chunks of a file one lane seals at a time: 1 to 256. With more than one lane it has no effect.
     pub window: u32,
